@@ -1,0 +1,35 @@
+-- A number that equals itself is no NaN, so it has one bit pattern.
+use borrow.Author.Needs.{needs}
+use mathlib.Core.Path.{_≡_, sym}
+use mathlib.Core.Bool.{true, not, true≢false}
+use lib.Dec.{T}
+use lib.Ieee.{Float, nan, inf, fin, eq, isNan}
+use Rattle.examples.proofs.show_bits.Statement.{statement}
+use Rattle.examples.proofs.show_bits.Tie as tie
+
+not-nan : (x : Float) → eq x x ≡ true → T (not (isNan x))
+unfolding eq isNan
+not-nan nan h = absurd (true≢false (sym h))
+not-nan (inf s) h = tt
+not-nan (fin s m e) h = tt
+
+float-to-bits-print-hex : tie.Need-float-to-bits-print-hex
+float-to-bits-print-hex c = not-nan (c .before .args .x) (c .if1 .taken)
+
+print-hex-requires : tie.Need-print-hex-requires
+print-hex-requires c κs = search needs
+
+slice-aggregate-write-all : tie.Need-slice-aggregate-write-all
+slice-aggregate-write-all c = search needs
+
+write-all-requires : tie.Need-write-all-requires
+write-all-requires c κs = search needs
+
+returns : tie.Need-returns
+returns c = search needs
+
+returns-2 : tie.Need-returns-2
+returns-2 c = search needs
+
+pub show-bits-spec : {M : Type 1} → statement M
+show-bits-spec = tie.close (tie.spec float-to-bits-print-hex print-hex-requires slice-aggregate-write-all write-all-requires returns returns-2)
