@@ -178,7 +178,9 @@ unfolding RootBits sqrtOf
 root-bits m h q lo hi far near nan v i p e = absurd i
 root-bits m h q lo hi far near (inf s) v i p e = absurd i
 root-bits m h q lo hi far near (fin true x d) v i p e = absurd (true≢false (i .0))
-root-bits m h q lo hi far near (fin false zero d) v i p e = absurd (lt-irrefl 0 (lt-of-lt-of-le (mul-pos p (down-pos d)) (le-of-eq (sym (i .1) ∙ ap (λ (x : ℕ). x * 2 ^ low binary64) (zero-mul (up d)) ∙ zero-mul (2 ^ low binary64)))))
+root-bits m h q lo hi far near (fin false zero d) v i p e =
+    let none : v * down d ≡ 0 = sym (i .1) ∙ ap (λ (x : ℕ). x * 2 ^ low binary64) (zero-mul (up d)) ∙ zero-mul (2 ^ low binary64) in
+    absurd (lt-irrefl 0 (lt-of-lt-of-le (mul-pos p (down-pos d)) (le-of-eq none)))
 root-bits m h q lo hi far near (fin false (suc x) d) v i p e =
     let n = m * 2 ^ 52 in
     let least : 2 ^ 52 * 2 ^ 52 ≤ n = mul-le-mul-right (2 ^ 52) lo in

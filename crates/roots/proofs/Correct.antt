@@ -33,7 +33,8 @@ even-bits f (fin s m e) q j v h z =
     let p = prec f in
     let k = size (q * 2 ^ j) - p in
     let units : m * up e * 2 ^ low f / down e ≡ q * 2 ^ j = ap (λ (x : ℕ). x / down e) (v .1) ∙ mul-div-cancel (q * 2 ^ j) (down-pos e) in
-    let split : q * 2 ^ j ≡ q * 2 ^ (j - k) * 2 ^ k = ap (λ (x : ℕ). q * x) (ap (λ (x : ℕ). 2 ^ x) (sym (back j k (spare (size (q * 2 ^ j)) p j (size-le (q * 2 ^ j) (p + j) (shl-lt p j h))))) ∙ pow-add 2 (j - k) k) ∙ sym (mul-assoc q (2 ^ (j - k)) (2 ^ k)) in
+    let over : k ≤ j = spare (size (q * 2 ^ j)) p j (size-le (q * 2 ^ j) (p + j) (shl-lt p j h)) in
+    let split : q * 2 ^ j ≡ q * 2 ^ (j - k) * 2 ^ k = ap (λ (x : ℕ). q * x) (ap (λ (x : ℕ). 2 ^ x) (sym (back j k over)) ∙ pow-add 2 (j - k) k) ∙ sym (mul-assoc q (2 ^ (j - k)) (2 ^ k)) in
     let last : q * 2 ^ j / 2 ^ k ≡ q * 2 ^ (j - k) = ap (λ (x : ℕ). x / 2 ^ k) split ∙ mul-div-cancel (q * 2 ^ (j - k)) (pow-pos k) in
     rw (v .0, units, last) (sum-even k (hid f) (2 ^ (p - 2)) q (2 ^ (j - k)) (ap (λ (x : ℕ). 2 ^ x) (less-two p (two f)) ∙ pow-suc 2 (p - 2)) z)
   where
@@ -96,7 +97,7 @@ no-nearer f a c true Y C g = by-size (rootUnits f a c) (root-against f a c 0 C n
         nothing Y = omega arith
     by-size (suc R) h = le-trans (mul-le-mul-right c (mul-le-mul (less (suc R)) (less (suc R)))) (h (omega arith))
 
--- where the root is a midpoint, the number kept is even
+-- where the root is a midpoint, `round` has just half of its last step left
 pub root-half : (f : Format) (a c Y : ℕ) → 0 < c → Spaced f Y → Tie f a c (rootUnits f a c) Y → let n = top f a c * 2 ^ low f in n % step f n (bottom f) * 2 ≡ step f n (bottom f)
 root-half f a c Y C g t = round-beside f (top f a c) (bottom f) Y (pow-pos (suc (suc (low f)))) g .tie (t .0) (root-against f a c Y C g .tie (t .1))
 

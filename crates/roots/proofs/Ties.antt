@@ -21,12 +21,16 @@ use Rattle.roots.proofs.Correct.{root-half, root-counted, sqrt-below}
 -- an odd number of p + 1 digits: its square is not m * 2 ^ J for a smaller m and a J above 0
 odd-square : (p w k m J : ℕ) → m < 2 ^ p → 0 < J → (0 < k → 2 ^ p ≤ 2 * w) → (2 * w + 1) * 2 ^ k * ((2 * w + 1) * 2 ^ k) ≡ m * 2 ^ J → ⊥
 odd-square p w k m J M j digits e = elim (decLe J (k + k)) [
-  | yes h ↦ large (2 ^ (k + k - J)) (digits (some k J j h)) (pow-pos (k + k - J)) (eq-of-mul-eq-mul-right (2 ^ J) (pow-pos J) m (o * 2 ^ (k + k - J)) (sym e ∙ twice ∙ ap (λ (x : ℕ). o * x) (split (k + k) J h) ∙ sym (mul-assoc o (2 ^ (k + k - J)) (2 ^ J))))
-  | no g ↦ even (J - (k + k)) (over g) (eq-of-mul-eq-mul-right (2 ^ (k + k)) (pow-pos (k + k)) o (m * 2 ^ (J - (k + k))) (sym twice ∙ e ∙ ap (λ (x : ℕ). m * x) (split J (k + k) (under g)) ∙ sym (mul-assoc m (2 ^ (J - (k + k))) (2 ^ (k + k)))))
+  | yes h ↦ large (2 ^ (k + k - J)) (digits (some k J j h)) (pow-pos (k + k - J)) (factor J (pow-pos J) m o (k + k - J) (sym e ∙ twice ∙ ap (λ (x : ℕ). o * x) (split (k + k) J h)))
+  | no g ↦ even (J - (k + k)) (over g) (factor (k + k) (pow-pos (k + k)) o m (J - (k + k)) (sym twice ∙ e ∙ ap (λ (x : ℕ). m * x) (split J (k + k) (under g))))
 ]
   where
     o : ℕ
     o = (2 * w + 1) * (2 * w + 1)
+
+    -- 2 ^ b cancelled
+    factor : (b : ℕ) → 0 < 2 ^ b → (x y i : ℕ) → x * 2 ^ b ≡ y * (2 ^ i * 2 ^ b) → x ≡ y * 2 ^ i
+    factor b B x y i q = eq-of-mul-eq-mul-right (2 ^ b) B x (y * 2 ^ i) (q ∙ sym (mul-assoc y (2 ^ i) (2 ^ b)))
 
     twice : (2 * w + 1) * 2 ^ k * ((2 * w + 1) * 2 ^ k) ≡ o * 2 ^ (k + k)
     twice = regrouped (2 * w + 1) (2 ^ k) ∙ ap (λ (x : ℕ). o * x) (sym (pow-add 2 k k))
@@ -105,7 +109,9 @@ no-tie f a c Y m j C M v g t =
         doubled h = omega arith
 
     squares : (N : ℕ) → N * N * c ≡ 4 * a * (2 ^ low f * 2 ^ low f) → N * N ≡ m * 2 ^ (j + low f + 2)
-    squares N e = eq-of-mul-eq-mul-right c C (N * N) (m * 2 ^ (j + low f + 2)) (e ∙ turned a (2 ^ low f) (m * 2 ^ j) c v ∙ ap (λ (x : ℕ). x * c) (gathered m (2 ^ j) (2 ^ low f) (2 ^ (j + low f + 2)) (pow-add 2 (j + low f) 2 ∙ ap (λ (x : ℕ). x * 4) (pow-add 2 j (low f)))))
+    squares N e =
+        let power : 2 ^ (j + low f + 2) ≡ 2 ^ j * 2 ^ low f * 4 = pow-add 2 (j + low f) 2 ∙ ap (λ (x : ℕ). x * 4) (pow-add 2 j (low f)) in
+        eq-of-mul-eq-mul-right c C (N * N) (m * 2 ^ (j + low f + 2)) (e ∙ turned a (2 ^ low f) (m * 2 ^ j) c v ∙ ap (λ (x : ℕ). x * c) (gathered m (2 ^ j) (2 ^ low f) (2 ^ (j + low f + 2)) power))
       where
         turned : (a L x c : ℕ) → a * L ≡ x * c → 4 * a * (L * L) ≡ x * L * 4 * c
         turned a L x c e = left a L ∙ ap (λ (y : ℕ). y * (4 * L)) e ∙ right x c L

@@ -15,7 +15,7 @@ use Rattle.roots.specs.Sqrt.{rootOf, sqrtOf}
 abbrev pub InUnits : Format → Float → Bool → ℕ → Type 0
 InUnits f y s Y = HasValue y s Y (2 ^ low f)
 
--- How four times the square of the root of a / c, and the square of M halves of a unit, are compared: both in L * L-ths, times c.
+-- Four times the square of that root, times c: what M * M * c is compared with.
 abbrev pub fourSquares : Format → ℕ → ℕ
 fourSquares f a = 4 * a * (2 ^ low f * 2 ^ low f)
 
