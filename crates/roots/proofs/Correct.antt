@@ -11,7 +11,7 @@ use lib.Dec.{T, eqb, leb, ltb, ltb→lt, lit<}
 use lib.Pow.{pow-pos, pow-add, pow-lt, shl-lt}
 use lib.Ieee.{Float, nan, inf, fin, Format, binary64, prec, low, hid, up, down, size, fits, round, toBits}
 use lib.Ieee.Digits.{size-le}
-use lib.Ieee.Fits.{two, down-pos, and-r, round-fits, nearest-le, kept-lt}
+use lib.Ieee.Fits.{two, down-pos, and-r, round-fits, nan-fits, inf-fits, nearest-le, kept-lt}
 use lib.Ieee.Scale.{overflow, round-val, round-under}
 use lib.Ieee.Order.{drop, kept}
 use Rattle.roots.specs.Sqrt.{rootOf, sqrtOf}
@@ -135,3 +135,13 @@ sqrt-rounded (inf s) h p = absurd p
 sqrt-rounded (fin true m e) h p = absurd p
 sqrt-rounded (fin false zero e) h p = absurd p
 sqrt-rounded (fin false (suc m) e) h p = rounded-below binary64 (suc m * up e) (down e) (down-pos e) (sqrt-below m e h)
+
+-- the root of a value of the format is one
+pub sqrt-fits : (x : Float) → T (fits binary64 x) → T (fits binary64 (sqrtOf x))
+unfolding sqrtOf
+sqrt-fits nan h = nan-fits binary64
+sqrt-fits (inf true) h = nan-fits binary64
+sqrt-fits (inf false) h = inf-fits binary64 false
+sqrt-fits (fin s zero e) h = h
+sqrt-fits (fin true (suc m) e) h = nan-fits binary64
+sqrt-fits (fin false (suc m) e) h = rw (root-is binary64 (suc m * up e) (down e)) (round-fits binary64 false _ _)

@@ -1,0 +1,31 @@
+-- What the calls promise, put together, is the definition.
+use borrow.Author.Needs.{needs}
+use Rattle.vectors.specs.Finite.{vec4IsFinite}
+use Rattle.vectors.proofs.finite.vec4_is_finite.Statement.{statement}
+use Rattle.vectors.proofs.finite.vec4_is_finite.Tie as tie
+
+is-finite-requires : tie.Need-is-finite-requires
+is-finite-requires c κs = search needs
+
+is-finite-requires-2 : tie.Need-is-finite-requires-2
+is-finite-requires-2 c κs = search needs
+
+is-finite-requires-3 : tie.Need-is-finite-requires-3
+is-finite-requires-3 c κs = search needs
+
+is-finite-requires-4 : tie.Need-is-finite-requires-4
+is-finite-requires-4 c κs = search needs
+
+returns : tie.Need-returns
+unfolding vec4IsFinite
+returns c = cc
+
+pub vec4-is-finite-spec : {M : Type 1} → statement M
+vec4-is-finite-spec =
+    tie.close
+    (tie.spec
+    is-finite-requires
+    is-finite-requires-2
+    is-finite-requires-3
+    is-finite-requires-4
+    returns)

@@ -1,0 +1,25 @@
+-- What the calls promise, put together, is the definition.
+use borrow.Author.Needs.{needs}
+use Rattle.vectors.specs.Rotation.{rotatedOf}
+use Rattle.vectors.proofs.rotation.rotated.Statement.{statement}
+use Rattle.vectors.proofs.rotation.rotated.Tie as tie
+
+cross-requires : tie.Need-cross-requires
+cross-requires c κs = search needs
+
+dot-requires : tie.Need-dot-requires
+dot-requires c κs = search needs
+
+cross-requires-2 : tie.Need-cross-requires-2
+cross-requires-2 c κs = search needs
+
+dot-requires-2 : tie.Need-dot-requires-2
+dot-requires-2 c κs = search needs
+
+returns : tie.Need-returns
+unfolding rotatedOf
+returns c = cc
+
+pub rotated-spec : {M : Type 1} → statement M
+rotated-spec =
+    tie.close (tie.spec cross-requires dot-requires cross-requires-2 dot-requires-2 returns)

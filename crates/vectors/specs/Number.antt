@@ -1,0 +1,35 @@
+-- The four operations of binary64, each rounded to nearest, and the two numbers that the formulas name.
+use mathlib.Core.Path.{_≡_, refl}
+use mathlib.Core.Bool.{false}
+use lib.IntN.{pos}
+use lib.Ieee.{Float, fin, binary64, ofBits, add, sub, mul, div}
+
+infixl 60 _⊕_
+infixl 60 _⊖_
+infixl 70 _⊗_
+infixl 70 _⊘_
+abbrev pub _⊕_ : Float → Float → Float
+a ⊕ b = add binary64 a b
+
+abbrev pub _⊖_ : Float → Float → Float
+a ⊖ b = sub binary64 a b
+
+abbrev pub _⊗_ : Float → Float → Float
+a ⊗ b = mul binary64 a b
+
+abbrev pub _⊘_ : Float → Float → Float
+a ⊘ b = div binary64 a b
+
+abbrev pub plusZero : Float
+plusZero = ofBits binary64 0
+
+abbrev pub plusOne : Float
+plusOne = ofBits binary64 0x3ff0_0000_0000_0000
+
+pub plusZero-is : plusZero ≡ fin false 0 (pos 0)
+unfolding ofBits
+plusZero-is = refl
+
+pub plusOne-is : plusOne ≡ fin false 1 (pos 0)
+unfolding ofBits
+plusOne-is = refl

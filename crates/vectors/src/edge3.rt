@@ -1,0 +1,30 @@
+// The length of an edge, and the one place that judges whether an edge has one to work with.
+use crate::finite;
+use crate::vec3;
+use crate::vec3::Vec3;
+ghost use mathlib.Core.Path.{_≡_};
+ghost use Rattle.vectors.specs.Edge.{measuredOf, edgeLength};
+
+// A length, and whether the squared length that it is the root of was finite and above 0.
+pub struct EdgeLength {
+    pub value: f64,
+    pub acceptable: bool,
+}
+
+// The length of the edge v.
+pub fn measured(v: Vec3) -> EdgeLength
+    ensures { λ r. ⌜ r ≡ measuredOf v ⌝ }
+{
+    let squared = vec3::dot(v, v);
+    EdgeLength {
+        value: roots::sqrt(squared),
+        acceptable: finite::is_finite(squared) & (0.0 < squared),
+    }
+}
+
+// The length of the edge from p0 to p1.
+pub fn length(p0: Vec3, p1: Vec3) -> EdgeLength
+    ensures { λ r. ⌜ r ≡ edgeLength p0 p1 ⌝ }
+{
+    measured(vec3::sub(p1, p0))
+}
