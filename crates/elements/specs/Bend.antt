@@ -1,4 +1,4 @@
--- Energy of bend and twist, its gradient and its approximate Hessian: rod3_darboux.rs, `wdwdwdw_darboux_rod_hair_approx_hessian`, lines 414 to 505.
+-- Energy of bend and twist, its gradient and its approximate Hessian: rod3_darboux.rs, `wdwdwdw_darboux_rod_hair_approx_hessian`, lines 413 to 503.
 use lib.Ieee.{Float}
 use Rattle.vectors.specs.Number.{_⊕_, _⊗_, plusZero}
 use Rattle.vectors.specs.Vec3.{vec3, vec3Sub, vec3Scale, vec3AddThree, vec3Dot}
@@ -22,11 +22,11 @@ use Rattle.elements.specs.declared.rod3_darboux.bend.Couplings.{Coupling
 unfoldable pub entrywise : Vec3 → Vec3 → Vec3
 entrywise a b = vec3 (a .x ⊗ b .x) (a .y ⊗ b .y) (a .z ⊗ b .z)
 
--- the energy alone: lines 430 to 433, over r of line 429
+-- the energy alone: lines 428 to 431, over r of line 427
 unfoldable pub bendEnergy : Vec3 → Vec3 → Float
 bendEnergy k r = half ⊗ (square (k .x) (r .x) ⊕ square (k .y) (r .y) ⊕ square (k .z) (r .z))
 
--- `add_three` of the three gradients of a vertex, each scaled: lines 437 to 440 and 489 to 492
+-- `add_three` of the three gradients of a vertex, each scaled: lines 435 to 438 and 481 to 484
 unfoldable pub weightedSum : BendNode → Vec3 → Vec3
 weightedSum n s = vec3AddThree (vec3Scale (n .g0) (s .x)) (vec3Scale (n .g1) (s .y)) (vec3Scale (n .g2) (s .z))
 
@@ -43,11 +43,11 @@ bendNode1 g = bendNode (g .d0 .p1) (g .d1 .p1) (g .d2 .p1) (vec3 (g .d0 .t1) (g 
 unfoldable pub bendNode2 : DarbouxGradient → BendNode
 bendNode2 g = bendNode (g .d0 .p2) (g .d1 .p2) (g .d2 .p2) zeroVec3
 
--- dw[ino], lines 436 to 450: (k0 r0) dcdt0 + (k1 r1) dcdt1 + (k2 r2) dcdt2 at the fourth place
+-- dw[ino], lines 434 to 447: (k0 r0) dcdt0 + (k1 r1) dcdt1 + (k2 r2) dcdt2 at the fourth place
 unfoldable pub bendGradient : BendNode → Vec3 → Vec4
 bendGradient n kr = vec4FromVec3 (weightedSum n kr) (vec3Dot kr (n .t))
 
--- m, lines 459 to 474: each block by its own products
+-- m, lines 455 to 470: each block by its own products
 unfoldable pub blockSum : Vec3 → BendNode → BendNode → Mat3
 blockSum k a b =
     mat3AddThree
@@ -55,7 +55,7 @@ blockSum k a b =
     (mat3ScaledOuterProduct (k .y) (a .g1) (b .g1))
     (mat3ScaledOuterProduct (k .z) (a .g2) (b .g2))
 
--- places 12, 13, 14 (last column), 3, 7, 11 (last row) and 15 set: lines 493 to 503
+-- places 12, 13, 14 (last column), 3, 7, 11 (last row) and 15 set: lines 485 to 490 and 495 to 497
 unfoldable pub withCoupling : Mat4 → Vec3 → Vec3 → Float → Mat4
 withCoupling m column row d =
     mat4
@@ -67,7 +67,7 @@ withCoupling m column row d =
 unfoldable pub bendBlock : Vec3 → BendNode → BendNode → Vec3 → Vec3 → Float → Mat4
 bendBlock k a b column row d = withCoupling (mat4FromMat3 (blockSum k a b) plusZero) column row d
 
--- v of lines 489 to 492, for each vertex with one twist
+-- v of lines 481 to 484, for each vertex with one twist
 unfoldable pub coupledOf : BendNode → BendNode → BendNode → Vec3 → Couplings
 coupledOf n0 n1 n2 kt = record { v0 = weightedSum n0 kt; v1 = weightedSum n1 kt; v2 = weightedSum n2 kt }
 

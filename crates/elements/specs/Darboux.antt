@@ -1,4 +1,4 @@
--- The Darboux vector of two neighbouring edges and its gradient: rod3_darboux.rs, lines 38 to 300.
+-- The Darboux vector of two neighbouring edges and its gradient: rod3_darboux.rs, lines 43 to 63 and 165 to 308.
 use lib.Ieee.{Float, neg}
 use Rattle.vectors.specs.Number.{_⊕_, _⊖_, _⊗_, _⊘_, plusZero, plusOne}
 use Rattle.vectors.specs.Vec3.{vec3, vec3Add, vec3Sub, vec3Scale, vec3Dot, vec3Norm, vec3Normalize, vec3Cross}
@@ -17,7 +17,7 @@ use Rattle.elements.specs.declared.rod3_darboux.DarbouxGradient.{Darboux
 abbrev pub zeroVec3 : Vec3
 zeroVec3 = vec3 plusZero plusZero plusZero
 
--- the frame and the length of an edge: lines 210 to 215, and again for the second edge
+-- the frame and the length of an edge: lines 244 to 250, and 251 to 257 for the second edge
 unfoldable pub edgeFrame : Vec3 → Vec3 → Vec3 → EdgeFrame
 edgeFrame p0 p1 ux =
     let v = vec3Sub p1 p0 in
@@ -28,7 +28,7 @@ edgeFrame p0 p1 ux =
 abbrev pub frameAxis : Vec3 → Mat3 → Vec3 → FrameAxis
 frameAxis f dvs dts = record { axis = f; dv = dvs; dt = dts }
 
--- `rod_frame_gradient`, lines 44 to 65: an axis with its derivatives dfdv and dfdt
+-- `rod_frame_gradient`, lines 43 to 63: an axis with its derivatives dfdv and dfdt
 unfoldable pub rodFrameGradient : Float → RodFrame → FrameGradient
 rodFrameGradient len f =
     let leninv = plusOne ⊘ len in
@@ -41,7 +41,7 @@ rodFrameGradient len f =
 unfoldable pub noGradient : Gradient
 noGradient = record { p0 = zeroVec3; p1 = zeroVec3; p2 = zeroVec3; t0 = plusZero; t1 = plusZero }
 
--- `add_gradient_of_dot_frame_axis`, lines 162 to 197, for the axis a of the first frame and b of the second
+-- `add_gradient_of_dot_frame_axis`, lines 165 to 197, for the axis a of the first frame and b of the second
 unfoldable pub addGradientOfDotFrameAxis : Gradient → Float → FrameAxis → FrameAxis → Gradient
 addGradientOfDotFrameAxis g c a b =
     let s = vec3Scale (vec3TimesMat3 (b .axis) (a .dv)) c in
@@ -54,18 +54,18 @@ addGradientOfDotFrameAxis g c a b =
       t1 = g .t1 ⊕ c ⊗ vec3Dot (a .axis) (b .dt);
     }
 
--- s, line 223: ((1 + d0) + d1) + d2
+-- s, lines 224 and 261: ((1 + d0) + d1) + d2
 unfoldable pub darbouxDenominator : RodFrame → RodFrame → Float
 darbouxDenominator a b = plusOne ⊕ vec3Dot (a .x) (b .x) ⊕ vec3Dot (a .y) (b .y) ⊕ vec3Dot (a .z) (b .z)
 
--- dsdp and dsdt, lines 261 to 275
+-- dsdp and dsdt, lines 262 to 276
 unfoldable pub denominatorGradient : FrameGradient → FrameGradient → Gradient
 denominatorGradient a b =
     let g0 = addGradientOfDotFrameAxis noGradient plusOne (a .x) (b .x) in
     let g1 = addGradientOfDotFrameAxis g0 plusOne (a .y) (b .y) in
     addGradientOfDotFrameAxis g1 plusOne (a .z) (b .z)
 
--- `darboux_rod`, lines 199 to 230
+-- `darboux_rod`, lines 199 to 231
 unfoldable pub darbouxRod : Rod → Vec3
 darbouxRod rod =
     let a = edgeFrame (rod .p0) (rod .p1) (rod .x0) .frame in
@@ -76,7 +76,7 @@ darbouxRod rod =
     ((vec3Dot (a .z) (b .x) ⊖ vec3Dot (a .x) (b .z)) ⊘ s)
     ((vec3Dot (a .x) (b .y) ⊖ vec3Dot (a .y) (b .x)) ⊘ s)
 
--- lines 299 to 303: dudp scaled by t0 with dsdp scaled by t1 added, and the twists alike
+-- lines 300 to 304: dudp scaled by t0 with dsdp scaled by t1 added, and the twists alike
 unfoldable pub combinedGradient : Gradient → Float → Gradient → Float → Gradient
 combinedGradient a s b t =
     record {
@@ -87,7 +87,7 @@ combinedGradient a s b t =
       t1 = a .t1 ⊗ s ⊕ b .t1 ⊗ t;
     }
 
--- one turn of the loop over the axes, lines 280 to 305, for the axes j and k after the turn's own; t1 is (-u) / (s s)
+-- one turn of the loop over the axes, lines 281 to 305, for the axes j and k after the turn's own; t1 is (-u) / (s s)
 unfoldable pub darbouxAxis : Float → Gradient → FrameAxis → FrameAxis → FrameAxis → FrameAxis → DarbouxAxis
 darbouxAxis s ds aj ak bj bk =
     let u = vec3Dot (aj .axis) (bk .axis) ⊖ vec3Dot (ak .axis) (bj .axis) in
@@ -95,7 +95,7 @@ darbouxAxis s ds aj ak bj bk =
     let du = addGradientOfDotFrameAxis du0 (neg plusOne) ak bj in
     record { c = u ⊘ s; d = combinedGradient du (plusOne ⊘ s) ds (neg u ⊘ (s ⊗ s)) }
 
--- `cdc_rod_darboux`, lines 233 to 307; the axes after i are (i + 1) % 3 and (i + 2) % 3
+-- `cdc_rod_darboux`, lines 234 to 308; the axes after i are (i + 1) % 3 and (i + 2) % 3
 unfoldable pub cdcRodDarboux : Rod → DarbouxGradient
 cdcRodDarboux rod =
     let ea = edgeFrame (rod .p0) (rod .p1) (rod .x0) in

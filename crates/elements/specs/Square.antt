@@ -2,7 +2,7 @@
 use lib.Ieee.{Float, binary64, ofBits}
 use Rattle.vectors.specs.Number.{_⊗_}
 
--- `half`, spring3.rs line 13 and rod3_darboux.rs line 426: one / (one + one)
+-- `half`, spring3.rs line 13 and rod3_darboux.rs line 424: one / (one + one)
 abbrev pub half : Float
 half = ofBits binary64 0x3fe0_0000_0000_0000
 

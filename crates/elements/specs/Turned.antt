@@ -1,4 +1,4 @@
--- The turned frame: rod3_darboux.rs, `updated_rod_frame`, lines 2 to 36, of which only the x axis is used.
+-- The turned frame: rod3_darboux.rs, `updated_rod_frame`, lines 23 to 35, of which only the x axis is used.
 use lib.Ieee.{Float}
 use Rattle.vectors.specs.Number.{_⊕_, plusOne}
 use Rattle.vectors.specs.Vec3.{vec3Add, vec3Scale, vec3Dot, vec3Normalize, vec3Cross}

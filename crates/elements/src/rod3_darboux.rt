@@ -73,7 +73,11 @@ fn edge_frame(p0: Vec3, p1: Vec3, x: Vec3) -> EdgeFrame
     let z = vec3::sub(p1, p0);
     let length = vec3::norm(z);
     let uz = vec3::scale(z, 1.0 / length);
-    let frame = RodFrame { x, y: vec3::cross(uz, x), z: uz };
+    let frame = RodFrame {
+        x,
+        y: vec3::cross(uz, x),
+        z: uz,
+    };
     EdgeFrame { frame, length }
 }
 
@@ -84,7 +88,11 @@ pub fn rod_frame_gradient(length: f64, frame: RodFrame) -> FrameGradient
     let x = frame.x;
     let y = frame.y;
     let z = frame.z;
-    let ax = FrameAxis { axis: x, dv: mat3::from_scaled_outer_product(-leninv, z, x), dt: y };
+    let ax = FrameAxis {
+        axis: x,
+        dv: mat3::from_scaled_outer_product(-leninv, z, x),
+        dt: y,
+    };
     let ay = FrameAxis {
         axis: y,
         dv: mat3::from_scaled_outer_product(-leninv, z, y),
@@ -93,16 +101,34 @@ pub fn rod_frame_gradient(length: f64, frame: RodFrame) -> FrameGradient
     let az = FrameAxis {
         axis: z,
         dv: mat3::scale(mat3::from_projection_onto_plane(z), leninv),
-        dt: Vec3 { x: 0.0, y: 0.0, z: 0.0 },
+        dt: Vec3 {
+            x: 0.0,
+            y: 0.0,
+            z: 0.0,
+        },
     };
-    FrameGradient { x: ax, y: ay, z: az }
+    FrameGradient {
+        x: ax,
+        y: ay,
+        z: az,
+    }
 }
 
 fn no_gradient() -> Gradient
     ensures { λ r. ⌜ r ≡ noGradient ⌝ }
 {
-    let zero = Vec3 { x: 0.0, y: 0.0, z: 0.0 };
-    Gradient { p0: zero, p1: zero, p2: zero, t0: 0.0, t1: 0.0 }
+    let zero = Vec3 {
+        x: 0.0,
+        y: 0.0,
+        z: 0.0,
+    };
+    Gradient {
+        p0: zero,
+        p1: zero,
+        p2: zero,
+        t0: 0.0,
+        t1: 0.0,
+    }
 }
 
 // g with c times the gradient of dot(a, b) added, a an axis of the first edge's frame and b one of
@@ -177,7 +203,11 @@ pub fn darboux_rod(rod: Rod) -> Vec3
     let u0 = vec3::dot(ay, bz) - vec3::dot(az, by);
     let u1 = vec3::dot(az, x1) - vec3::dot(x0, bz);
     let u2 = vec3::dot(x0, by) - vec3::dot(ay, x1);
-    Vec3 { x: u0 / s, y: u1 / s, z: u2 / s }
+    Vec3 {
+        x: u0 / s,
+        y: u1 / s,
+        z: u2 / s,
+    }
 }
 
 // t0 times one gradient and t1 times another.
@@ -218,7 +248,10 @@ fn darboux_axis(
     let u = vec3::dot(faj, fbk) - vec3::dot(fak, fbj);
     let du0 = add_gradient_of_dot_frame_axis(no_gradient(), 1.0, aj, bk);
     let du = add_gradient_of_dot_frame_axis(du0, -1.0, ak, bj);
-    DarbouxAxis { c: u / s, d: combined(du, 1.0 / s, ds, -u / (s * s)) }
+    DarbouxAxis {
+        c: u / s,
+        d: combined(du, 1.0 / s, ds, -u / (s * s)),
+    }
 }
 
 pub fn cdc_rod_darboux(rod: Rod) -> DarbouxGradient
@@ -249,5 +282,14 @@ pub fn cdc_rod_darboux(rod: Rod) -> DarbouxGradient
     let d0 = r0.d;
     let d1 = r1.d;
     let d2 = r2.d;
-    DarbouxGradient { c: Vec3 { x: r0.c, y: r1.c, z: r2.c }, d0, d1, d2 }
+    DarbouxGradient {
+        c: Vec3 {
+            x: r0.c,
+            y: r1.c,
+            z: r2.c,
+        },
+        d0,
+        d1,
+        d2,
+    }
 }

@@ -1,7 +1,8 @@
 // Energy of bend and twist with its gradient and its approximate Hessian: the products of the
 // Darboux vector's gradients, without its second derivatives.
 use crate::rod3_darboux;
-use crate::rod3_darboux::{DarbouxGradient, Rod};
+use crate::rod3_darboux::DarbouxGradient;
+use crate::rod3_darboux::Rod;
 use vectors::mat3;
 use vectors::mat3::Mat3;
 use vectors::mat4;
@@ -50,7 +51,11 @@ pub struct Couplings {
 fn entrywise(a: Vec3, b: Vec3) -> Vec3
     ensures { λ r. ⌜ r ≡ entrywise a b ⌝ }
 {
-    Vec3 { x: a.x * b.x, y: a.y * b.y, z: a.z * b.z }
+    Vec3 {
+        x: a.x * b.x,
+        y: a.y * b.y,
+        z: a.z * b.z,
+    }
 }
 
 // The three gradients of n, each times an entry of s.
@@ -60,7 +65,11 @@ fn weighted_sum(n: BendNode, s: Vec3) -> Vec3
     let g0 = n.g0;
     let g1 = n.g1;
     let g2 = n.g2;
-    vec3::add_three(vec3::scale(g0, s.x), vec3::scale(g1, s.y), vec3::scale(g2, s.z))
+    vec3::add_three(
+        vec3::scale(g0, s.x),
+        vec3::scale(g1, s.y),
+        vec3::scale(g2, s.z),
+    )
 }
 
 fn bend_node0(d: DarbouxGradient) -> BendNode
@@ -72,7 +81,16 @@ fn bend_node0(d: DarbouxGradient) -> BendNode
     let g0 = d0.p0;
     let g1 = d1.p0;
     let g2 = d2.p0;
-    BendNode { g0, g1, g2, t: Vec3 { x: d0.t0, y: d1.t0, z: d2.t0 } }
+    BendNode {
+        g0,
+        g1,
+        g2,
+        t: Vec3 {
+            x: d0.t0,
+            y: d1.t0,
+            z: d2.t0,
+        },
+    }
 }
 
 fn bend_node1(d: DarbouxGradient) -> BendNode
@@ -84,7 +102,16 @@ fn bend_node1(d: DarbouxGradient) -> BendNode
     let g0 = d0.p1;
     let g1 = d1.p1;
     let g2 = d2.p1;
-    BendNode { g0, g1, g2, t: Vec3 { x: d0.t1, y: d1.t1, z: d2.t1 } }
+    BendNode {
+        g0,
+        g1,
+        g2,
+        t: Vec3 {
+            x: d0.t1,
+            y: d1.t1,
+            z: d2.t1,
+        },
+    }
 }
 
 // No edge begins at the last vertex.
@@ -97,7 +124,16 @@ fn bend_node2(d: DarbouxGradient) -> BendNode
     let g0 = d0.p2;
     let g1 = d1.p2;
     let g2 = d2.p2;
-    BendNode { g0, g1, g2, t: Vec3 { x: 0.0, y: 0.0, z: 0.0 } }
+    BendNode {
+        g0,
+        g1,
+        g2,
+        t: Vec3 {
+            x: 0.0,
+            y: 0.0,
+            z: 0.0,
+        },
+    }
 }
 
 // The gradient at a vertex where an edge begins.
@@ -130,24 +166,53 @@ fn with_coupling(m: Mat4, column: Vec3, row: Vec3, w: f64) -> Mat4
     ensures { λ r. ⌜ r ≡ withCoupling m column row w ⌝ }
 {
     Mat4 {
-        c0: Vec4 { x: m.c0.x, y: m.c0.y, z: m.c0.z, w: row.x },
-        c1: Vec4 { x: m.c1.x, y: m.c1.y, z: m.c1.z, w: row.y },
-        c2: Vec4 { x: m.c2.x, y: m.c2.y, z: m.c2.z, w: row.z },
-        c3: Vec4 { x: column.x, y: column.y, z: column.z, w },
+        c0: Vec4 {
+            x: m.c0.x,
+            y: m.c0.y,
+            z: m.c0.z,
+            w: row.x,
+        },
+        c1: Vec4 {
+            x: m.c1.x,
+            y: m.c1.y,
+            z: m.c1.z,
+            w: row.y,
+        },
+        c2: Vec4 {
+            x: m.c2.x,
+            y: m.c2.y,
+            z: m.c2.z,
+            w: row.z,
+        },
+        c3: Vec4 {
+            x: column.x,
+            y: column.y,
+            z: column.z,
+            w,
+        },
     }
 }
 
 fn bend_block(k: Vec3, a: BendNode, b: BendNode, column: Vec3, row: Vec3, w: f64) -> Mat4
     ensures { λ r. ⌜ r ≡ bendBlock k a b column row w ⌝ }
 {
-    with_coupling(mat4::from_mat3_adding_w(block_sum(k, a, b), 0.0), column, row, w)
+    with_coupling(
+        mat4::from_mat3_adding_w(block_sum(k, a, b), 0.0),
+        column,
+        row,
+        w,
+    )
 }
 
 // The three vertices' positions with the twist whose gradient, times the stiffnesses, is kt.
 fn coupled(n0: BendNode, n1: BendNode, n2: BendNode, kt: Vec3) -> Couplings
     ensures { λ r. ⌜ r ≡ coupledOf n0 n1 n2 kt ⌝ }
 {
-    Couplings { v0: weighted_sum(n0, kt), v1: weighted_sum(n1, kt), v2: weighted_sum(n2, kt) }
+    Couplings {
+        v0: weighted_sum(n0, kt),
+        v1: weighted_sum(n1, kt),
+        v2: weighted_sum(n2, kt),
+    }
 }
 
 // kt0 and kt1 are the twists' gradients times the stiffnesses, v and u the couplings with each.
@@ -162,7 +227,11 @@ fn bend_row0(
 ) -> BendRow
     ensures { λ r. ⌜ r ≡ bendRow0 k n0 n1 n2 kt0 v u ⌝ }
 {
-    let none = Vec3 { x: 0.0, y: 0.0, z: 0.0 };
+    let none = Vec3 {
+        x: 0.0,
+        y: 0.0,
+        z: 0.0,
+    };
     let t0 = n0.t;
     let t1 = n1.t;
     let v0 = v.v0;
@@ -187,7 +256,11 @@ fn bend_row1(
 ) -> BendRow
     ensures { λ r. ⌜ r ≡ bendRow1 k n0 n1 n2 kt1 v u ⌝ }
 {
-    let none = Vec3 { x: 0.0, y: 0.0, z: 0.0 };
+    let none = Vec3 {
+        x: 0.0,
+        y: 0.0,
+        z: 0.0,
+    };
     let t0 = n0.t;
     let t1 = n1.t;
     let v1 = v.v1;
@@ -211,7 +284,11 @@ fn bend_row2(
 ) -> BendRow
     ensures { λ r. ⌜ r ≡ bendRow2 k n0 n1 n2 v u ⌝ }
 {
-    let none = Vec3 { x: 0.0, y: 0.0, z: 0.0 };
+    let none = Vec3 {
+        x: 0.0,
+        y: 0.0,
+        z: 0.0,
+    };
     let v2 = v.v2;
     let u2 = u.v2;
     BendRow {

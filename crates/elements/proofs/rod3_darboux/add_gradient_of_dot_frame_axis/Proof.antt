@@ -1,9 +1,7 @@
 -- What the calls promise, put together, is the definition.
 use borrow.Author.Needs.{needs}
 use Rattle.elements.specs.Darboux.{addGradientOfDotFrameAxis}
-use Rattle.elements.proofs.rod3_darboux.add_gradient_of_dot_frame_axis.Statement.{
-  statement,
-}
+use Rattle.elements.proofs.rod3_darboux.add_gradient_of_dot_frame_axis.Statement.{statement}
 use Rattle.elements.proofs.rod3_darboux.add_gradient_of_dot_frame_axis.Tie as tie
 
 mult-mat3-array-of-array-requires : tie.Need-mult-mat3-array-of-array-requires
@@ -38,7 +36,19 @@ dot-requires-2 c κs = search needs
 
 returns : tie.Need-returns
 unfolding addGradientOfDotFrameAxis
-returns c = cc
+returns c =
+    simp (
+      c .before .dot2 .ensures,
+      c .before .before .before .dot .ensures,
+      c .before .before .before .before .add2 .ensures,
+      c .before .before .before .before .before .sub2 .ensures,
+      c .before .before .before .before .before .before .add .ensures,
+      c .before .before .before .before .before .before .before .sub .ensures,
+      c .before .before .before .before .before .before .before .before .scale2 .ensures,
+      c .before .before .before .before .before .before .before .before .before .mult-mat3-array-of-array2 .ensures,
+      c .before .before .before .before .before .before .before .before .before .before .scale .ensures,
+      c .before .before .before .before .before .before .before .before .before .before .before .mult-mat3-array-of-array .ensures,
+    )
 
 pub add-gradient-of-dot-frame-axis-spec : {M : Type 1} → statement M
 add-gradient-of-dot-frame-axis-spec =

@@ -15,7 +15,12 @@ dot-requires-3 c κs = search needs
 
 returns : tie.Need-returns
 unfolding darbouxDenominator
-returns c = cc
+returns c =
+    simp (
+      c .dot3 .ensures,
+      c .before .dot2 .ensures,
+      c .before .before .dot .ensures,
+    )
 
 pub darboux-denominator-spec : {M : Type 1} → statement M
 darboux-denominator-spec = tie.close (tie.spec dot-requires dot-requires-2 dot-requires-3 returns)

@@ -18,7 +18,13 @@ add-gradient-of-dot-frame-axis-requires-3 c κs = search needs
 
 returns : tie.Need-returns
 unfolding denominatorGradient
-returns c = cc
+returns c =
+    simp (
+      c .add-gradient-of-dot-frame-axis3 .ensures,
+      c .before .add-gradient-of-dot-frame-axis2 .ensures,
+      c .before .before .add-gradient-of-dot-frame-axis .ensures,
+      c .before .before .before .no-gradient .ensures,
+    )
 
 pub denominator-gradient-spec : {M : Type 1} → statement M
 denominator-gradient-spec =

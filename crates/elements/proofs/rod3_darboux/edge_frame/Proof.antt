@@ -19,7 +19,13 @@ cross-requires c κs = search needs
 
 returns : tie.Need-returns
 unfolding edgeFrame vec3Normalize
-returns c = cc
+returns c =
+    simp (
+      c .cross .ensures,
+      c .before .scale .ensures,
+      c .before .before .norm .ensures,
+      c .before .before .before .sub .ensures,
+    )
 
 pub edge-frame-spec : {M : Type 1} → statement M
 edge-frame-spec =

@@ -21,7 +21,14 @@ scale-requires-2 c κs = search needs
 
 returns : tie.Need-returns
 unfolding rodFrameGradient
-returns c = cc
+returns c =
+    simp (
+      c .scale2 .ensures,
+      c .before .from-projection-onto-plane .ensures,
+      c .before .before .scale .ensures,
+      c .before .before .before .from-scaled-outer-product2 .ensures,
+      c .before .before .before .before .from-scaled-outer-product .ensures,
+    )
 
 pub rod-frame-gradient-spec : {M : Type 1} → statement M
 rod-frame-gradient-spec =

@@ -21,7 +21,14 @@ add-requires c κs = search needs
 
 returns : tie.Need-returns
 unfolding stretchBlock
-returns c = cc
+returns c =
+    simp (
+      c .add .ensures,
+      c .before .scale2 .ensures,
+      c .before .before .scale .ensures,
+      c .before .before .before .from-identity .ensures,
+      c .before .before .before .before .from-scaled-outer-product .ensures,
+    )
 
 pub stretch-block-spec : {M : Type 1} → statement M
 stretch-block-spec =

@@ -25,7 +25,15 @@ scale-requires-3 c κs = search needs
 
 returns : tie.Need-returns
 unfolding wdwddwSquaredLengthDifference square
-returns c = cc
+returns c =
+    simp (
+      c .scale3 .ensures,
+      c .before .scale2 .ensures,
+      c .before .before .scale .ensures,
+      c .before .before .before .stretch-block .ensures,
+      c .before .before .before .before .norm .ensures,
+      c .before .before .before .before .before .sub .ensures,
+    )
 
 pub wdwddw-squared-length-difference-spec : {M : Type 1} → statement M
 wdwddw-squared-length-difference-spec =

@@ -12,7 +12,11 @@ measured-requires c κs = search needs
 
 returns : tie.Need-returns
 unfolding edgeLength
-returns c = cc
+returns c =
+    simp (
+      c .measured .ensures,
+      c .before .sub .ensures,
+    )
 
 pub length-spec : {M : Type 1} → statement M
 length-spec = tie.close (tie.spec sub-requires measured-requires returns)

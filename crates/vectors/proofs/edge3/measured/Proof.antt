@@ -15,7 +15,12 @@ is-finite-requires c κs = search needs
 
 returns : tie.Need-returns
 unfolding measuredOf acceptable
-returns c = cc
+returns c =
+    simp (
+      c .is-finite .ensures,
+      c .before .sqrt .ensures,
+      c .before .before .dot .ensures,
+    )
 
 pub measured-spec : {M : Type 1} → statement M
 measured-spec = tie.close (tie.spec dot-requires sqrt-requires is-finite-requires returns)

@@ -18,7 +18,13 @@ vec4-is-finite-requires-4 c κs = search needs
 
 returns : tie.Need-returns
 unfolding mat4IsFinite
-returns c = cc
+returns c =
+    simp (
+      c .vec4-is-finite4 .ensures,
+      c .before .vec4-is-finite3 .ensures,
+      c .before .before .vec4-is-finite2 .ensures,
+      c .before .before .before .vec4-is-finite .ensures,
+    )
 
 pub mat4-is-finite-spec : {M : Type 1} → statement M
 mat4-is-finite-spec =

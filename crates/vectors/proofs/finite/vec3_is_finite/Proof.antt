@@ -15,7 +15,12 @@ is-finite-requires-3 c κs = search needs
 
 returns : tie.Need-returns
 unfolding vec3IsFinite
-returns c = cc
+returns c =
+    simp (
+      c .is-finite3 .ensures,
+      c .before .is-finite2 .ensures,
+      c .before .before .is-finite .ensures,
+    )
 
 pub vec3-is-finite-spec : {M : Type 1} → statement M
 vec3-is-finite-spec =

@@ -18,7 +18,13 @@ is-finite-requires-4 c κs = search needs
 
 returns : tie.Need-returns
 unfolding vec4IsFinite
-returns c = cc
+returns c =
+    simp (
+      c .is-finite4 .ensures,
+      c .before .is-finite3 .ensures,
+      c .before .before .is-finite2 .ensures,
+      c .before .before .before .is-finite .ensures,
+    )
 
 pub vec4-is-finite-spec : {M : Type 1} → statement M
 vec4-is-finite-spec =

@@ -15,7 +15,12 @@ add-requires-3 c κs = search needs
 
 returns : tie.Need-returns
 unfolding mat3Add
-returns c = cc
+returns c =
+    simp (
+      c .add3 .ensures,
+      c .before .add2 .ensures,
+      c .before .before .add .ensures,
+    )
 
 pub add-spec : {M : Type 1} → statement M
 add-spec = tie.close (tie.spec add-requires add-requires-2 add-requires-3 returns)

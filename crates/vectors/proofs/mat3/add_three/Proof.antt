@@ -12,7 +12,11 @@ add-requires-2 c κs = search needs
 
 returns : tie.Need-returns
 unfolding mat3AddThree
-returns c = cc
+returns c =
+    simp (
+      c .add2 .ensures,
+      c .before .add .ensures,
+    )
 
 pub add-three-spec : {M : Type 1} → statement M
 add-three-spec = tie.close (tie.spec add-requires add-requires-2 returns)

@@ -9,7 +9,8 @@ from-diagonal-requires c κs = search needs
 
 returns : tie.Need-returns
 unfolding mat3Identity
-returns c = cc
+returns c =
+    simp (c .from-diagonal .ensures)
 
 pub from-identity-spec : {M : Type 1} → statement M
 from-identity-spec = tie.close (tie.spec from-diagonal-requires returns)

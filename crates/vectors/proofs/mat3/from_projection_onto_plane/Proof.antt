@@ -24,7 +24,15 @@ sub-requires-3 c κs = search needs
 
 returns : tie.Need-returns
 unfolding mat3Projection
-returns c = cc
+returns c =
+    simp (
+      c .sub3 .ensures,
+      c .before .scale3 .ensures,
+      c .before .before .sub2 .ensures,
+      c .before .before .before .scale2 .ensures,
+      c .before .before .before .before .sub .ensures,
+      c .before .before .before .before .before .scale .ensures,
+    )
 
 pub from-projection-onto-plane-spec : {M : Type 1} → statement M
 from-projection-onto-plane-spec =

@@ -15,7 +15,12 @@ scale-requires-3 c κs = search needs
 
 returns : tie.Need-returns
 unfolding mat3ScaledOuterProduct
-returns c = cc
+returns c =
+    simp (
+      c .scale3 .ensures,
+      c .before .before .scale2 .ensures,
+      c .before .before .before .before .scale .ensures,
+    )
 
 pub from-scaled-outer-product-spec : {M : Type 1} → statement M
 from-scaled-outer-product-spec =

@@ -15,7 +15,12 @@ scale-requires-3 c κs = search needs
 
 returns : tie.Need-returns
 unfolding mat3Scale
-returns c = cc
+returns c =
+    simp (
+      c .scale3 .ensures,
+      c .before .scale2 .ensures,
+      c .before .before .scale .ensures,
+    )
 
 pub scale-spec : {M : Type 1} → statement M
 scale-spec = tie.close (tie.spec scale-requires scale-requires-2 scale-requires-3 returns)

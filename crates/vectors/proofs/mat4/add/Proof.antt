@@ -18,7 +18,13 @@ add-requires-4 c κs = search needs
 
 returns : tie.Need-returns
 unfolding mat4Add
-returns c = cc
+returns c =
+    simp (
+      c .add4 .ensures,
+      c .before .add3 .ensures,
+      c .before .before .add2 .ensures,
+      c .before .before .before .add .ensures,
+    )
 
 pub add-spec : {M : Type 1} → statement M
 add-spec = tie.close (tie.spec add-requires add-requires-2 add-requires-3 add-requires-4 returns)

@@ -30,7 +30,17 @@ add-requires-4 c κs = search needs
 
 returns : tie.Need-returns
 unfolding mat4TimesVec4
-returns c = cc
+returns c =
+    simp (
+      c .add4 .ensures,
+      c .before .scale4 .ensures,
+      c .before .before .add3 .ensures,
+      c .before .before .before .scale3 .ensures,
+      c .before .before .before .before .add2 .ensures,
+      c .before .before .before .before .before .scale2 .ensures,
+      c .before .before .before .before .before .before .add .ensures,
+      c .before .before .before .before .before .before .before .scale .ensures,
+    )
 
 pub mult-vec-spec : {M : Type 1} → statement M
 mult-vec-spec =

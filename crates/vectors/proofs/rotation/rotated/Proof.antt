@@ -18,7 +18,13 @@ dot-requires-2 c κs = search needs
 
 returns : tie.Need-returns
 unfolding rotatedOf
-returns c = cc
+returns c =
+    simp (
+      c .before .before .before .before .before .before .before .before .before .dot2 .ensures,
+      c .before .before .before .before .before .before .before .before .before .before .cross2 .ensures,
+      c .before .before .before .before .before .before .before .before .before .before .before .dot .ensures,
+      c .before .before .before .before .before .before .before .before .before .before .before .before .cross .ensures,
+    )
 
 pub rotated-spec : {M : Type 1} → statement M
 rotated-spec =

@@ -18,7 +18,13 @@ add-three-requires c κs = search needs
 
 returns : tie.Need-returns
 unfolding vec3TimesMat3
-returns c = cc
+returns c =
+    simp (
+      c .add-three .ensures,
+      c .before .scale3 .ensures,
+      c .before .before .scale2 .ensures,
+      c .before .before .before .scale .ensures,
+    )
 
 pub mult-mat3-array-of-array-spec : {M : Type 1} → statement M
 mult-mat3-array-of-array-spec =

@@ -12,7 +12,11 @@ sqrt-requires c κs = search needs
 
 returns : tie.Need-returns
 unfolding vec3Norm
-returns c = cc
+returns c =
+    simp (
+      c .sqrt .ensures,
+      c .before .dot .ensures,
+    )
 
 pub norm-spec : {M : Type 1} → statement M
 norm-spec = tie.close (tie.spec dot-requires sqrt-requires returns)

@@ -12,7 +12,11 @@ scale-requires c κs = search needs
 
 returns : tie.Need-returns
 unfolding vec3Normalize
-returns c = cc
+returns c =
+    simp (
+      c .scale .ensures,
+      c .before .norm .ensures,
+    )
 
 pub normalize-spec : {M : Type 1} → statement M
 normalize-spec = tie.close (tie.spec norm-requires scale-requires returns)

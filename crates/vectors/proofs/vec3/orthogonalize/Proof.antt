@@ -18,7 +18,13 @@ sub-requires c κs = search needs
 
 returns : tie.Need-returns
 unfolding vec3Orthogonalize
-returns c = cc
+returns c =
+    simp (
+      c .sub .ensures,
+      c .before .scale .ensures,
+      c .before .before .dot2 .ensures,
+      c .before .before .before .dot .ensures,
+    )
 
 pub orthogonalize-spec : {M : Type 1} → statement M
 orthogonalize-spec =

@@ -15,7 +15,12 @@ with-coupling-requires c κs = search needs
 
 returns : tie.Need-returns
 unfolding bendBlock
-returns c = cc
+returns c =
+    simp (
+      c .with-coupling .ensures,
+      c .before .from-mat3-adding-w .ensures,
+      c .before .before .block-sum .ensures,
+    )
 
 pub bend-block-spec : {M : Type 1} → statement M
 bend-block-spec =

@@ -15,7 +15,12 @@ from-vec3-requires c κs = search needs
 
 returns : tie.Need-returns
 unfolding bendGradient
-returns c = cc
+returns c =
+    simp (
+      c .from-vec3 .ensures,
+      c .before .dot .ensures,
+      c .before .before .weighted-sum .ensures,
+    )
 
 pub bend-gradient-spec : {M : Type 1} → statement M
 bend-gradient-spec =

@@ -15,7 +15,12 @@ bend-block-requires-3 c κs = search needs
 
 returns : tie.Need-returns
 unfolding bendRow2
-returns c = cc
+returns c =
+    simp (
+      c .bend-block3 .ensures,
+      c .before .bend-block2 .ensures,
+      c .before .before .bend-block .ensures,
+    )
 
 pub bend-row2-spec : {M : Type 1} → statement M
 bend-row2-spec =

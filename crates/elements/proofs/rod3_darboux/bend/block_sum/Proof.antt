@@ -18,7 +18,13 @@ add-three-requires c κs = search needs
 
 returns : tie.Need-returns
 unfolding blockSum
-returns c = cc
+returns c =
+    simp (
+      c .add-three .ensures,
+      c .before .from-scaled-outer-product3 .ensures,
+      c .before .before .from-scaled-outer-product2 .ensures,
+      c .before .before .before .from-scaled-outer-product .ensures,
+    )
 
 pub block-sum-spec : {M : Type 1} → statement M
 block-sum-spec =

@@ -15,7 +15,12 @@ weighted-sum-requires-3 c κs = search needs
 
 returns : tie.Need-returns
 unfolding coupledOf
-returns c = cc
+returns c =
+    simp (
+      c .weighted-sum3 .ensures,
+      c .before .weighted-sum2 .ensures,
+      c .before .before .weighted-sum .ensures,
+    )
 
 pub coupled-spec : {M : Type 1} → statement M
 coupled-spec =

@@ -3,9 +3,7 @@ use borrow.Author.Needs.{needs}
 use Rattle.vectors.specs.Vec3.{vec3Dot}
 use Rattle.elements.specs.Bend.{wdwdwdwDarbouxRodHairApproxHessian, bendEnergy, entrywise}
 use Rattle.elements.specs.Square.{square}
-use Rattle.elements.proofs.rod3_darboux.bend.wdwdwdw_darboux_rod_hair_approx_hessian.Statement.{
-  statement,
-}
+use Rattle.elements.proofs.rod3_darboux.bend.wdwdwdw_darboux_rod_hair_approx_hessian.Statement.{statement}
 use Rattle.elements.proofs.rod3_darboux.bend.wdwdwdw_darboux_rod_hair_approx_hessian.Tie as tie
 
 cdc-rod-darboux-requires : tie.Need-cdc-rod-darboux-requires

@@ -18,7 +18,13 @@ add-three-requires c κs = search needs
 
 returns : tie.Need-returns
 unfolding weightedSum
-returns c = cc
+returns c =
+    simp (
+      c .add-three .ensures,
+      c .before .scale3 .ensures,
+      c .before .before .scale2 .ensures,
+      c .before .before .before .scale .ensures,
+    )
 
 pub weighted-sum-spec : {M : Type 1} → statement M
 weighted-sum-spec =

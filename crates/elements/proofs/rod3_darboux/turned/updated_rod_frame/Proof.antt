@@ -39,7 +39,20 @@ dot-requires c κs = search needs
 
 returns : tie.Need-returns
 unfolding updatedRodFrame
-returns c = cc
+returns c =
+    simp (
+      c .dot .ensures,
+      c .before .rotated .ensures,
+      c .before .before .add2 .ensures,
+      c .before .before .before .scale2 .ensures,
+      c .before .before .before .before .scale .ensures,
+      c .before .before .before .before .before .sine .ensures .0,
+      c .before .before .before .before .before .before .cosine .ensures .0,
+      c .before .before .before .before .before .before .before .cross .ensures,
+      c .before .before .before .before .before .before .before .before .normalize2 .ensures,
+      c .before .before .before .before .before .before .before .before .before .add .ensures,
+      c .before .before .before .before .before .before .before .before .before .before .normalize .ensures,
+    )
 
 pub updated-rod-frame-spec : {M : Type 1} → statement M
 updated-rod-frame-spec =

@@ -1,0 +1,3 @@
+-- The laws that the crates above cite, and the samples.
+pub mod Energy
+mod Samples

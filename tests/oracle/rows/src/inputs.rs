@@ -1,0 +1,59 @@
+//! What the functions are asked: literals of few digits, and unit frames made of them by the stubs.
+//! The literals were searched for: with each of them, many wrong orders of operations show. Keep
+//! away from zeros and from stiffnesses that are powers of two, where most do not.
+
+use del_geo_core::vec3;
+
+/// A curved piece of rod: three points, and an axis for each of its two edges.
+pub struct Piece {
+    pub points: [[f64; 3]; 3],
+    /// Where each axis comes from, neither unit nor square to its edge.
+    axes: [[f64; 3]; 2],
+    pub stiff: [f64; 3],
+    /// The Darboux vector at rest.
+    pub darboux0: [f64; 3],
+}
+
+pub const PIECES: [Piece; 3] = [
+    Piece {
+        points: [[0.98, 1.18, 1.46], [1.73, 0.42, 1.66], [1.09, -0.71, 0.23]],
+        axes: [[0.6, -0.4, 0.7], [0.2, -1.2, 0.8]],
+        stiff: [1.7, 2.3, 0.9],
+        darboux0: [-0.16, 0.54, 0.34],
+    },
+    Piece {
+        points: [
+            [-0.82, 0.92, -1.95],
+            [-0.81, -0.41, -1.06],
+            [-1.97, -0.59, -0.35],
+        ],
+        axes: [[0.8, 0.6, -0.2], [1.1, -1.2, -0.6]],
+        stiff: [2.3, 0.9, 1.7],
+        darboux0: [-0.44, 0.22, 0.58],
+    },
+    Piece {
+        points: [[1.37, 0.02, -0.35], [0.39, 1.08, 0.86], [-1.26, 0.37, 0.23]],
+        axes: [[0.6, 0.9, 0.7], [0.2, -1.2, -0.1]],
+        stiff: [0.7, 1.3, 1.7],
+        darboux0: [-0.57, -0.37, 0.13],
+    },
+];
+
+impl Piece {
+    /// The edge from point i to the next.
+    pub fn edge(&self, i: usize) -> [f64; 3] {
+        vec3::sub(&self.points[i + 1], &self.points[i])
+    }
+
+    /// The two frames' first axes: unit, and square to their edges.
+    pub fn unit_axes(&self) -> [[f64; 3]; 2] {
+        [0, 1].map(|i| vec3::normalize(&vec3::orthogonalize(&self.edge(i), &self.axes[i])))
+    }
+
+    /// The whole frame at edge i, and the edge's length.
+    pub fn frame(&self, i: usize) -> ([[f64; 3]; 3], f64) {
+        let x = self.unit_axes()[i];
+        let z = vec3::normalize(&self.edge(i));
+        ([x, vec3::cross(&z, &x), z], vec3::norm(&self.edge(i)))
+    }
+}
