@@ -1,0 +1,3 @@
+-- The laws behind the crate's proofs.
+pub mod Parts
+pub mod RowLaws

@@ -1,0 +1,4 @@
+-- What the crate's contracts cite.
+pub mod Parts
+pub mod Rows
+pub mod SliceOfArray

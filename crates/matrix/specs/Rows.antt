@@ -1,0 +1,24 @@
+-- Rows of four numbers in a flat list.
+use mathlib.Core.List.{List, [], _∷_, _++_}
+use Prim.Native.Nat.{ℕ, _+_, _*_}
+use lib.ListN.{getD}
+use lib.Ieee.{Float, nan}
+use Rattle.vectors.specs.Vec4.{vec4}
+use Rattle.vectors.specs.declared.vec4.Vec4.{Vec4}
+use Rattle.matrix.specs.Parts.{table}
+
+-- The row that begins at o.
+unfoldable pub row4 : List Float → ℕ → Vec4
+row4 l o = vec4 (getD l o nan) (getD l (o + 1) nan) (getD l (o + 2) nan) (getD l (o + 3) nan)
+
+-- The n rows from o on.
+unfoldable pub rows4 : List Float → ℕ → ℕ → List Vec4
+rows4 l o n = table n (λ i. row4 l (o + 4 * i))
+
+-- A row's numbers, and those of several rows.
+unfoldable pub numbers4 : Vec4 → List Float
+numbers4 v = v .x ∷ v .y ∷ v .z ∷ v .w ∷ []
+
+unfoldable pub flat4 : List Vec4 → List Float
+flat4 [] = []
+flat4 (v ∷ vs) = numbers4 v ++ flat4 vs

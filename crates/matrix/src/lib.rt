@@ -1,0 +1,3 @@
+// Vectors of rows of four numbers in one flat area that the caller lends.
+pub mod rows;
+pub mod slice_of_array;
