@@ -1,3 +1,4 @@
 -- The laws behind the crate's proofs.
 pub mod Parts
 pub mod RowLaws
+pub mod RowPlaces

@@ -49,13 +49,13 @@ loop-less : tie.Need-loop-less Inv-loop μ-loop
 loop-less c = search needs
 
 loop-again : tie.Need-loop-again Inv-loop μ-loop
-loop-again c = 
+loop-again c =
     let l = c .before .before .before .before .loop in
     (search needs, rw (l .inv .1, c .dot .ensures, c .before .load42 .ensures, c .before .before .load4 .ensures) (sym (dot-more plusZero (l .i) _ _)))
 
 returns : tie.Need-returns Inv-loop μ-loop
 unfolding dotRows rows4
-returns c = 
+returns c =
     let l = c .before .loop in
     let e : l .i ≡ c .before .before .before .args .n = omega arith in
     rw (← e) (l .inv .1)

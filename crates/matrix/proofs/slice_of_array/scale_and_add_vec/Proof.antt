@@ -62,7 +62,7 @@ loop-less : tie.Need-loop-less Inv-loop μ-loop
 loop-less c = search needs
 
 loop-again : tie.Need-loop-again Inv-loop μ-loop
-loop-again c = 
+loop-again c =
     let s = c .before .before .before .before .before .before .before .before .before .before .before .before .before in
     let l = c .before .before .before .before .before .before .before .before .before .before .before .loop in
     let apart = s .pre .1 .1 in
@@ -75,7 +75,7 @@ same-length c = search needs
 
 returns : tie.Need-returns Inv-loop μ-loop
 unfolding scaleAndAddVec rows4
-returns c = 
+returns c =
     let a = c .before .before .before .args in
     stored-all (c .before .loop .inv .1) (omega arith) ∙ ap (λ (l : List Vec4). put (a .work .now) (a .to) (flat4 l)) (sym (zip-tables (λ (x y : Vec4). vec4Add y (vec4Scale x (a .beta))) (a .n) _ _))
 
