@@ -2,3 +2,4 @@
 pub mod Parts
 pub mod RowLaws
 pub mod RowPlaces
+pub mod Products

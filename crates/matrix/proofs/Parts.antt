@@ -63,3 +63,24 @@ module _ {ℓ} {A : Type ℓ} where
       let e₂ : o + 2 ≡ suc (suc o) = omega arith in
       let e₃ : o + 3 ≡ suc (suc (suc o)) = omega arith in
       rw (e₁, e₂, e₃)
+
+  -- ---- parts
+  pub getD-table : (n : ℕ) (f : ℕ → A) (i : ℕ) (d : A) → i < n → getD (table n f) i d ≡ f i
+  unfolding table
+  getD-table zero f i d h = absurd (not-suc-le-zero h)
+  getD-table (suc n) f zero d h = refl
+  getD-table (suc n) f (suc i) d h = getD-table n (λ k. f (suc k)) i d (le-of-suc-le-suc h)
+
+  pub length-part : (w : List A) (o n : ℕ) → o + n ≤ length w → length (part w o n) ≡ n
+  unfolding part
+  length-part w o n h = simp (length-take, length-drop) (omega arith)
+
+  pub getD-part : (w : List A) (o n i : ℕ) (d : A) → i < n → getD (part w o n) i d ≡ getD w (o + i) d
+  unfolding part
+  getD-part w o n i d h = getD-take n (drop o w) i d h ∙ getD-drop o w i d
+
+  pub part-table : (d : A) (n : ℕ) (f : ℕ → A) (o m : ℕ) → o + m ≤ n → part (table n f) o m ≡ table m (λ i. f (o + i))
+  part-table d n f o m h =
+      let long : length (part (table n f) o m) ≡ m = length-part (table n f) o m (omega (arith, length-table n f)) in
+      ext-getD d (part (table n f) o m) (table m (λ i. f (o + i))) (long ∙ sym (length-table m _))
+      (λ i b. let c : i < m = omega arith in getD-part (table n f) o m i d c ∙ getD-table n f (o + i) d (omega arith) ∙ sym (getD-table m (λ k. f (o + k)) i d c))

@@ -80,3 +80,14 @@ pub row-within : (n i j : ℕ) → i < j → rowStart n i + rowLength n i ≤ ro
 unfolding rowStart
 row-within n i zero h = absurd (omega arith)
 row-within n i (suc j) h = elim (eq-or-lt-of-le h) [ inl e ↦ (let f : i ≡ j = omega arith in rw f (le-refl _)) | inr l ↦ le-trans (row-within n i j (omega arith)) (le-add-right _ _) ]
+
+-- how far a row's columns reach
+pub before-le : (i : ℕ) → (before i ≤ i) × (before i ≤ 2)
+unfolding before
+before-le zero = (omega arith, omega arith)
+before-le (suc zero) = (omega arith, omega arith)
+before-le (suc (suc i)) = (omega arith, omega arith)
+
+pub after-le : (n i : ℕ) → i < n → (i + 1 + after n i ≤ n) × (after n i ≤ 2)
+unfolding after
+after-le n i h = let b = before-le (n - suc i) in (omega arith, b .1)

@@ -3,3 +3,4 @@ pub mod Parts
 pub mod Rows
 pub mod SliceOfArray
 pub mod Layout
+pub mod SparseSquare

@@ -1,10 +1,12 @@
--- Rows of four numbers in a flat list.
+-- Rows of four numbers, and blocks of sixteen, in a flat list.
 use mathlib.Core.List.{List, [], _∷_, _++_}
 use Prim.Native.Nat.{ℕ, _+_, _*_}
 use lib.ListN.{getD}
 use lib.Ieee.{Float, nan}
 use Rattle.vectors.specs.Vec4.{vec4}
+use Rattle.vectors.specs.Mat4.{mat4}
 use Rattle.vectors.specs.declared.vec4.Vec4.{Vec4}
+use Rattle.vectors.specs.declared.mat4.Mat4.{Mat4}
 use Rattle.matrix.specs.Parts.{table}
 
 -- The row that begins at o.
@@ -14,6 +16,13 @@ row4 l o = vec4 (getD l o nan) (getD l (o + 1) nan) (getD l (o + 2) nan) (getD l
 -- The n rows from o on.
 unfoldable pub rows4 : List Float → ℕ → ℕ → List Vec4
 rows4 l o n = table n (λ i. row4 l (o + 4 * i))
+
+-- The 4 by 4 block that begins at o, column by column, and the n blocks from o on.
+unfoldable pub block16 : List Float → ℕ → Mat4
+block16 l o = mat4 (row4 l o) (row4 l (o + 4)) (row4 l (o + 8)) (row4 l (o + 12))
+
+unfoldable pub blocks16 : List Float → ℕ → ℕ → List Mat4
+blocks16 l o n = table n (λ i. block16 l (o + 16 * i))
 
 -- A row's numbers, and those of several rows.
 unfoldable pub numbers4 : Vec4 → List Float

@@ -1,4 +1,5 @@
-// Vectors of rows of four numbers in one flat area that the caller lends.
+// Vectors of rows of four numbers and a matrix of blocks, in one flat area that the caller lends.
 pub mod layout;
 pub mod rows;
 pub mod slice_of_array;
+pub mod sparse_square;

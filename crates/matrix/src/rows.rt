@@ -1,10 +1,11 @@
-// Four numbers of the area as a vector, and back.
+// Four numbers of the area as a vector, and back; sixteen as a block.
+use vectors::mat4::Mat4;
 use vectors::vec4::Vec4;
 ghost use mathlib.Core.Path.{_≡_};
 ghost use Prim.Native.Nat.{_+_, _≤_};
 ghost use lib.ListN.{length};
 ghost use Rattle.matrix.specs.Parts.{put};
-ghost use Rattle.matrix.specs.Rows.{row4, numbers4};
+ghost use Rattle.matrix.specs.Rows.{row4, block16, numbers4};
 
 // The row that begins at `at`.
 pub fn load4(work: &[f64], at: usize) -> Vec4
@@ -16,6 +17,19 @@ pub fn load4(work: &[f64], at: usize) -> Vec4
         y: work[at + 1],
         z: work[at + 2],
         w: work[at + 3],
+    }
+}
+
+// The block that begins at `at`.
+pub fn load_block(work: &[f64], at: usize) -> Mat4
+    requires { ⌜ at + 16 ≤ length (now work) ⌝ }
+    ensures { λ r. ⌜ r ≡ block16 (now (work .entry)) at ⌝ }
+{
+    Mat4 {
+        c0: load4(work, at),
+        c1: load4(work, at + 4),
+        c2: load4(work, at + 8),
+        c3: load4(work, at + 12),
     }
 }
 

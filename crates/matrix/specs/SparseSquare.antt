@@ -1,0 +1,43 @@
+-- The product of the matrix and a vector: sparse_square.rs, `mult_vec`, lines 136 to 165, with alpha 1 and beta 0. Multiplying by alpha changes no bit and is left out.
+use mathlib.Core.List.{List, [], _∷_}
+use Prim.Native.Nat.{ℕ, suc, _+_, _-_, _*_}
+use lib.ListN.{getD}
+use lib.Ieee.{Float}
+use Rattle.vectors.specs.Number.{plusZero}
+use Rattle.vectors.specs.Vec4.{vec4, vec4Add, vec4Scale}
+use Rattle.vectors.specs.Mat4.{mat4, mat4TimesVec4}
+use Rattle.vectors.specs.declared.vec4.Vec4.{Vec4}
+use Rattle.vectors.specs.declared.mat4.Mat4.{Mat4}
+use Rattle.matrix.specs.Parts.{part, table}
+use Rattle.matrix.specs.Rows.{blocks16}
+use Rattle.matrix.specs.Layout.{before, after, rowLength, rowStart}
+
+abbrev pub zeroRow : Vec4
+zeroRow = vec4 plusZero plusZero plusZero plusZero
+
+abbrev pub zeroBlock : Mat4
+zeroBlock = mat4 zeroRow zeroRow zeroRow zeroRow
+
+-- s and the products of blocks with rows, upward
+unfoldable pub addProducts : Vec4 → List Mat4 → List Vec4 → Vec4
+addProducts s [] xs = s
+addProducts s (m ∷ ms) [] = s
+addProducts s (m ∷ ms) (x ∷ xs) = addProducts (vec4Add s (mat4TimesVec4 m x)) ms xs
+
+-- Row i of n, with the blocks ms, times xs: the old product by 0, the blocks of the columns before the row's own, those after it, and the diagonal block last.
+unfoldable pub rowTimes : ℕ → ℕ → List Mat4 → List Vec4 → Vec4 → Vec4
+rowTimes n i ms xs old =
+    let low = before i in
+    let high = after n i in
+    let s0 = vec4Scale old plusZero in
+    let s1 = addProducts s0 (part ms 0 low) (part xs (i - low) low) in
+    let s2 = addProducts s1 (part ms low high) (part xs (i + 1) high) in
+    vec4Add s2 (mat4TimesVec4 (getD ms (low + high) zeroBlock) (getD xs i zeroRow))
+
+-- The rows of the matrix that stands at the beginning of the area l.
+unfoldable pub matrixRows : List Float → ℕ → List (List Mat4)
+matrixRows l n = table n (λ i. blocks16 l (16 * rowStart n i) (rowLength n i))
+
+-- The product, row by row, from the old one.
+unfoldable pub multVec : ℕ → List (List Mat4) → List Vec4 → List Vec4 → List Vec4
+multVec n rows xs olds = table n (λ i. rowTimes n i (getD rows i []) xs (getD olds i zeroRow))
