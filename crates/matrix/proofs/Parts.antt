@@ -1,14 +1,13 @@
 -- Laws of tables, parts and stores, for any element type.
 -- Two lists of one length are equal where their elements are, so each law is one of elements: inside what was stored they are the stored ones, outside they are the old ones.
 use mathlib.Core.Path.{_≡_, refl, sym, ap, _∙_}
-use mathlib.Core.Logic.{_⊎_, inl, inr}
 use mathlib.Core.List.{List, [], _∷_, _++_}
 use Prim.Native.Nat.{ℕ, zero, suc, _+_, _≤_, _<_, suc-le-suc}
 use native.Mathlib.Nat.{not-suc-le-zero, le-of-suc-le-suc, add-zero, add-suc, suc-add}
 use native.Mathlib.Omega.{arith}
-use lib.ListN.{length, getD, set, length-set, length-take, length-drop, drop, length-append}
+use lib.ListN.{length, getD, set, length-set, length-take, length-drop, drop}
 use lib.Seq.{length-sets, getD-set-same, getD-set-other, getD-take, getD-drop, ext-getD}
-use Rattle.matrix.specs.Parts.{Apart, part, put, table}
+use Rattle.matrix.specs.Parts.{part, put, table}
 
 module _ {ℓ} {A : Type ℓ} where
   -- ---- tables

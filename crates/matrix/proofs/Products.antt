@@ -1,22 +1,24 @@
 -- Products of blocks and rows: one more of a sum, and a row of the matrix in terms of where its blocks and the vector's rows stand.
-use mathlib.Core.Path.{_≡_, refl, sym, ap, ap₂, _∙_}
-use mathlib.Core.List.{List, [], _∷_}
+use mathlib.Core.Path.{_≡_, refl, sym, ap, _∙_}
+use mathlib.Core.List.{List, []}
 use Prim.Native.Nat.{ℕ, zero, suc, _+_, _-_, _*_, _≤_, _<_}
+use native.Mathlib.Nat.{add-assoc}
 use native.Mathlib.Numerals.{add-one}
 use native.Mathlib.Omega.{arith}
-use lib.ListN.{getD}
-use lib.Ieee.{Float}
+use lib.ListN.{length, getD, take, drop}
+use lib.Ieee.{Float, nan}
 use Rattle.vectors.specs.Number.{plusZero}
-use Rattle.vectors.specs.Vec4.{vec4, vec4Add, vec4Scale}
+use Rattle.vectors.specs.Vec4.{vec4Add, vec4Scale}
 use Rattle.vectors.specs.Mat4.{mat4, mat4TimesVec4}
 use Rattle.vectors.specs.declared.vec4.Vec4.{Vec4}
 use Rattle.vectors.specs.declared.mat4.Mat4.{Mat4}
 use Rattle.matrix.specs.Parts.{part, table}
 use Rattle.matrix.specs.Rows.{row4, rows4, block16, blocks16}
-use Rattle.matrix.specs.Layout.{before, after, rowLength}
-use Rattle.matrix.specs.SparseSquare.{zeroRow, zeroBlock, addProducts, rowTimes}
-use Rattle.matrix.proofs.Parts.{table-ext, getD-table, part-table}
-use Rattle.matrix.proofs.RowPlaces.{before-le, after-le}
+use Rattle.matrix.specs.Layout.{before, after, rowLength, rowStart}
+use Rattle.matrix.specs.SparseSquare.{zeroRow, zeroBlock, addProducts, rowTimes, matrixRows, multVec}
+use Rattle.matrix.proofs.Parts.{table-ext, getD-table, length-part, getD-part, part-table}
+use Rattle.matrix.proofs.RowLaws.{Stored, unstored}
+use Rattle.matrix.proofs.RowPlaces.{before-le, after-le, row-length}
 
 -- one product more
 pub products-more : (s : Vec4) (n : ℕ) (a : ℕ → Mat4) (b : ℕ → Vec4) → addProducts s (table (n + 1) a) (table (n + 1) b) ≡ vec4Add (addProducts s (table n a) (table n b)) (mat4TimesVec4 (a n) (b n))
@@ -67,3 +69,79 @@ module _ (n i : ℕ) (row x : List Float) (old : Vec4) (h : i < n) where
         block-at zeroBlock row 0 k (before i + after n i) (16 * (before i + after n i)) (omega arith) (omega arith),
         row-at zeroRow x 0 n i (4 * i) h (omega arith),
       )
+
+-- ---- a part of the area lent on its own
+row-part : (w : List Float) (o m k : ℕ) → k + 4 ≤ m → row4 (part w o m) k ≡ row4 w (o + k)
+unfolding row4
+row-part w o m k h =
+    rw (
+      getD-part w o m k nan (omega arith),
+      getD-part w o m (k + 1) nan (omega arith),
+      getD-part w o m (k + 2) nan (omega arith),
+      getD-part w o m (k + 3) nan (omega arith),
+      add-assoc o k 1,
+      add-assoc o k 2,
+      add-assoc o k 3,
+    )
+
+pub rows-part : (w : List Float) (o m n : ℕ) → 4 * n ≤ m → rows4 (part w o m) 0 n ≡ rows4 w o n
+unfolding rows4
+rows-part w o m n h = table-ext n _ _ (λ i b. row-part w o m (0 + 4 * i) (omega arith) ∙ ap (row4 w) (omega arith))
+
+pub blocks-part : (w : List Float) (o m n : ℕ) → 16 * n ≤ m → blocks16 (part w o m) 0 n ≡ blocks16 w o n
+unfolding blocks16 block16
+blocks-part w o m n h = table-ext n _ _ (λ i b. columns (0 + 16 * i) (o + 16 * i) (omega arith) (omega arith))
+  where
+    columns : (k j : ℕ) → k + 16 ≤ m → o + k ≡ j → mat4 (row4 (part w o m) k) (row4 (part w o m) (k + 4)) (row4 (part w o m) (k + 8)) (row4 (part w o m) (k + 12)) ≡ mat4 (row4 w j) (row4 w (j + 4)) (row4 w (j + 8)) (row4 w (j + 12))
+    columns k j b e =
+        rw (
+          row-part w o m k (omega arith),
+          row-part w o m (k + 4) (omega arith),
+          row-part w o m (k + 8) (omega arith),
+          row-part w o m (k + 12) (omega arith),
+          ← e,
+          add-assoc o k 4,
+          add-assoc o k 8,
+          add-assoc o k 12,
+        )
+
+-- what `row_times` lends, where st, lo and hi are the row's start and its columns before and after
+module _ (w : List Float) (n i p st lo hi : ℕ) (es : st ≡ rowStart n i) (el : lo ≡ before i) (eh : hi ≡ after n i) (fits : st + (lo + hi + 1) ≤ 154) (long : 2464 ≤ length w) (room : p + 4 * n ≤ length w) where
+  pub lent-row : 16 * rowLength n i ≤ length (take (16 * st + 16 * (lo + hi + 1) - 16 * st) (drop (16 * st) w))
+  unfolding part rowLength
+  lent-row = omega (arith, length-part w (16 * st) (16 * st + 16 * (lo + hi + 1) - 16 * st) (omega arith))
+
+  pub lent-vector : 4 * n ≤ length (take (p + 4 * n - p) (drop p w))
+  unfolding part
+  lent-vector = omega (arith, length-part w p (p + 4 * n - p) (omega arith))
+
+  pub lent-product : (old r : Vec4) → r ≡ rowTimes n i (blocks16 (take (16 * st + 16 * (lo + hi + 1) - 16 * st) (drop (16 * st) w)) 0 (rowLength n i)) (rows4 (take (p + 4 * n - p) (drop p w)) 0 n) old
+      → r ≡ rowTimes n i (blocks16 w (16 * rowStart n i) (rowLength n i)) (rows4 w p n) old
+  unfolding part
+  lent-product old r e = rw (blocks-part w (16 * st) (16 * st + 16 * (lo + hi + 1) - 16 * st) (rowLength n i) enough, rows-part w p (p + 4 * n - p) n (omega arith), es) at e
+    where
+      enough : 16 * rowLength n i ≤ 16 * st + 16 * (lo + hi + 1) - 16 * st
+      enough = omega (arith, length-row)
+        where
+          length-row : rowLength n i ≡ lo + hi + 1
+          length-row = rw (el, eh) (row-length n i)
+
+-- ---- the whole product, stored row by row
+pub rows-unstored : {w v : List Float} {o : ℕ} {f : ℕ → Vec4} {i : ℕ} → Stored w v o f i → (a m : ℕ) → ((j : ℕ) → a ≤ j → j < a + 4 * m → o ≤ j → j < o + 4 * i → ⊥) → rows4 v a m ≡ rows4 w a m
+unfolding rows4
+rows-unstored s a m h = table-ext m _ _ (λ k b. unstored s (a + 4 * k) (λ j x y. h j (omega arith) (omega arith)))
+
+pub blocks-unstored : {w v : List Float} {o : ℕ} {f : ℕ → Vec4} {i : ℕ} → Stored w v o f i → (a m : ℕ) → a + 16 * m ≤ o → blocks16 v a m ≡ blocks16 w a m
+unfolding blocks16 block16
+blocks-unstored {w} {v} {o} {f} {i} s a m h = table-ext m _ _ (λ k b. columns (a + 16 * k) (omega arith))
+  where
+    columns : (k : ℕ) → k + 16 ≤ o → mat4 (row4 v k) (row4 v (k + 4)) (row4 v (k + 8)) (row4 v (k + 12)) ≡ mat4 (row4 w k) (row4 w (k + 4)) (row4 w (k + 8)) (row4 w (k + 12))
+    columns k b = rw (unstored s k (λ j x y z t. omega arith), unstored s (k + 4) (λ j x y z t. omega arith), unstored s (k + 8) (λ j x y z t. omega arith), unstored s (k + 12) (λ j x y z t. omega arith))
+
+-- row k of the product, by where things stand in the area
+abbrev pub rowAt : List Float → ℕ → ℕ → ℕ → ℕ → Vec4
+rowAt w n p ap k = rowTimes n k (blocks16 w (16 * rowStart n k) (rowLength n k)) (rows4 w p n) (row4 w (ap + 4 * k))
+
+pub product-rows : (w : List Float) (n p ap : ℕ) → table n (rowAt w n p ap) ≡ multVec n (matrixRows w n) (rows4 w p n) (rows4 w ap n)
+unfolding multVec matrixRows
+product-rows w n p ap = table-ext n _ _ (λ k b. rw (getD-table n (λ (i : ℕ). blocks16 w (16 * rowStart n i) (rowLength n i)) k [] b, row-at zeroRow w ap n k (ap + 4 * k) b refl))

@@ -1,12 +1,12 @@
 -- Rows of four in a flat list: a loop that stores row f i at o + 4 * i has stored the first rows of a table, and reads the old rows elsewhere.
 use mathlib.Core.Path.{_≡_, refl, sym, ap, _∙_}
-use mathlib.Core.List.{List, [], _∷_, _++_, append-assoc, zipWith}
+use mathlib.Core.List.{List, [], _∷_, _++_, zipWith}
 use Prim.Native.Nat.{ℕ, zero, suc, _+_, _*_, _≤_, _<_}
 use native.Mathlib.Numerals.{add-one}
 use native.Mathlib.Omega.{arith}
-use lib.ListN.{length, getD, length-append}
+use lib.ListN.{length, getD}
 use lib.Ieee.{Float, nan}
-use Rattle.vectors.specs.Number.{_⊕_, plusZero}
+use Rattle.vectors.specs.Number.{_⊕_}
 use Rattle.vectors.specs.Vec4.{vec4Dot}
 use Rattle.vectors.specs.declared.vec4.Vec4.{Vec4}
 use Rattle.matrix.specs.Parts.{put, table}

@@ -1,6 +1,6 @@
 -- The sum that says where a row starts, in closed form, and the number of all blocks.
 -- By induction on the row: each row adds its own length, and only the last two lack blocks after their own.
-use mathlib.Core.Path.{_≡_, refl, sym, _∙_}
+use mathlib.Core.Path.{_≡_, refl}
 use mathlib.Core.Logic.{inl, inr}
 use Prim.Native.Nat.{ℕ, zero, suc, _+_, _-_, _*_, _≤_, _<_}
 use native.Mathlib.Nat.{le-refl, le-trans, le-add-right, eq-or-lt-of-le}
@@ -91,3 +91,11 @@ before-le (suc (suc i)) = (omega arith, omega arith)
 pub after-le : (n i : ℕ) → i < n → (i + 1 + after n i ≤ n) × (after n i ≤ 2)
 unfolding after
 after-le n i h = let b = before-le (n - suc i) in (omega arith, b .1)
+
+-- a row ends within the area's blocks
+pub row-fits : (n i : ℕ) → i < n → 2 ≤ n → n ≤ 32 → rowStart n i + rowLength n i ≤ 154
+row-fits n i b h m = omega (arith, row-within n i n b, all-blocks n h)
+
+pub row-length : (n i : ℕ) → rowLength n i ≡ before i + after n i + 1
+unfolding rowLength
+row-length n i = refl

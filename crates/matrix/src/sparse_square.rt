@@ -46,3 +46,37 @@ fn row_product(row: &[f64], x: &[f64], n: usize, i: usize, old: Vec4) -> Vec4
     let v = rows::load4(x, 4 * i);
     vec4::add(s2, mat4::mult_vec(b, v))
 }
+
+// Row i of the matrix that stands at the beginning of the area, times the vector at p, from the old
+// product at ap.
+fn row_times(work: &[f64], n: usize, i: usize, p: usize, ap: usize) -> Vec4
+    requires { ⌜ i < n ⌝ }
+    requires { ⌜ (2 ≤ n) × (n ≤ 32) ⌝ }
+    requires { ⌜ 2464 ≤ length (now work) ⌝ }
+    requires { ⌜ p + 4 * n ≤ length (now work) ⌝ }
+    requires { ⌜ ap + 4 * n ≤ length (now work) ⌝ }
+    ensures { λ r. ⌜ r ≡ rowTimes n i (blocks16 (now (work .entry)) (16 * rowStart n i) (rowLength n i)) (rows4 (now (work .entry)) p n) (row4 (now (work .entry)) (ap + 4 * i)) ⌝ }
+{
+    let s = 16 * layout::row_start(n, i);
+    let e = s + 16 * (layout::count_before(i) + layout::count_after(n, i) + 1);
+    let pe = p + 4 * n;
+    let old = rows::load4(work, ap + 4 * i);
+    row_product(&work[s..e], &work[p..pe], n, i, old)
+}
+
+// The matrix times the vector at p, stored at ap.
+pub fn mult_vec(work: &mut [f64], n: usize, p: usize, ap: usize)
+    requires { ⌜ (2 ≤ n) × (n ≤ 32) ⌝ }
+    requires { ⌜ 2464 ≤ ap ⌝ }
+    requires { ⌜ p + 4 * n ≤ length (now work) ⌝ }
+    requires { ⌜ ap + 4 * n ≤ length (now work) ⌝ }
+    requires { ⌜ Apart ap (4 * n) p (4 * n) ⌝ }
+    ensures { λ _. ⌜ now (work .exit) ≡ put (now (work .entry)) ap (flat4 (multVec n (matrixRows (now (work .entry)) n) (rows4 (now (work .entry)) p n) (rows4 (now (work .entry)) ap n))) ⌝ }
+{
+    let mut i = 0;
+    while i < n {
+        let y = row_times(work, n, i, p, ap);
+        rows::store4(work, ap + 4 * i, y);
+        i += 1;
+    }
+}

@@ -1,5 +1,4 @@
 -- The two cases are those of the definition.
-use borrow.Author.Needs.{needs}
 use mathlib.Core.Path.{sym}
 use Rattle.matrix.proofs.RowPlaces.{before-one, before-two}
 use Rattle.matrix.proofs.layout.count_before.Statement.{statement}
