@@ -19,3 +19,7 @@ rowLength n i = before i + after n i + 1
 unfoldable pub rowStart : ℕ → ℕ → ℕ
 rowStart n zero = 0
 rowStart n (suc i) = rowStart n i + rowLength n i
+
+-- The numbers that the blocks of at most 32 rows take in the work area: "The areas", 16 for each of 5 * 32 - 6 blocks.
+abbrev pub matrixNumbers : ℕ
+matrixNumbers = 2464

@@ -1,4 +1,4 @@
--- The product of the matrix and a vector: sparse_square.rs, `mult_vec`, lines 136 to 165, with alpha 1 and beta 0. Multiplying by alpha changes no bit and is left out.
+-- The product of the matrix and a vector: sparse_square.rs, `mult_vec`, lines 143 to 171, with alpha 1 and beta 0. Multiplying by alpha changes no bit and is left out.
 use mathlib.Core.List.{List, [], _∷_}
 use Prim.Native.Nat.{ℕ, _+_, _-_, _*_}
 use lib.ListN.{getD}

@@ -9,7 +9,7 @@ ghost use Prim.Native.Nat.{_+_, _*_, _≤_, _<_};
 ghost use lib.ListN.{length};
 ghost use Rattle.matrix.specs.Parts.{put, Apart};
 ghost use Rattle.matrix.specs.Rows.{row4, rows4, blocks16, flat4};
-ghost use Rattle.matrix.specs.Layout.{rowLength, rowStart};
+ghost use Rattle.matrix.specs.Layout.{rowLength, rowStart, matrixNumbers};
 ghost use Rattle.matrix.specs.SparseSquare.{addProducts, rowTimes, matrixRows, multVec};
 
 // y and the products of `count` blocks of m, from `at` on, with as many rows of x, from `from` on.
@@ -52,7 +52,7 @@ fn row_product(row: &[f64], x: &[f64], n: usize, i: usize, old: Vec4) -> Vec4
 fn row_times(work: &[f64], n: usize, i: usize, p: usize, ap: usize) -> Vec4
     requires { ⌜ i < n ⌝ }
     requires { ⌜ (2 ≤ n) × (n ≤ 32) ⌝ }
-    requires { ⌜ 2464 ≤ length (now work) ⌝ }
+    requires { ⌜ matrixNumbers ≤ length (now work) ⌝ }
     requires { ⌜ p + 4 * n ≤ length (now work) ⌝ }
     requires { ⌜ ap + 4 * n ≤ length (now work) ⌝ }
     ensures { λ r. ⌜ r ≡ rowTimes n i (blocks16 (now (work .entry)) (16 * rowStart n i) (rowLength n i)) (rows4 (now (work .entry)) p n) (row4 (now (work .entry)) (ap + 4 * i)) ⌝ }
@@ -67,7 +67,7 @@ fn row_times(work: &[f64], n: usize, i: usize, p: usize, ap: usize) -> Vec4
 // The matrix times the vector at p, stored at ap.
 pub fn mult_vec(work: &mut [f64], n: usize, p: usize, ap: usize)
     requires { ⌜ (2 ≤ n) × (n ≤ 32) ⌝ }
-    requires { ⌜ 2464 ≤ ap ⌝ }
+    requires { ⌜ matrixNumbers ≤ ap ⌝ }
     requires { ⌜ p + 4 * n ≤ length (now work) ⌝ }
     requires { ⌜ ap + 4 * n ≤ length (now work) ⌝ }
     requires { ⌜ Apart ap (4 * n) p (4 * n) ⌝ }
