@@ -3,3 +3,4 @@ pub mod Parts
 pub mod RowLaws
 pub mod RowPlaces
 pub mod Products
+pub mod Every

@@ -4,3 +4,5 @@ pub mod Rows
 pub mod SliceOfArray
 pub mod Layout
 pub mod SparseSquare
+pub mod Pins
+pub mod System

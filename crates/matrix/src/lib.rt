@@ -1,5 +1,7 @@
 // Vectors of rows of four numbers and a matrix of blocks, in one flat area that the caller lends.
 pub mod layout;
+pub mod pins;
 pub mod rows;
 pub mod slice_of_array;
 pub mod sparse_square;
+pub mod system;

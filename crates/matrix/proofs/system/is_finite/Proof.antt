@@ -1,0 +1,35 @@
+-- What the calls promise, put together, is the definition.
+use borrow.Author.Needs.{needs}
+use Rattle.matrix.specs.System.{systemIsFinite}
+use Rattle.matrix.proofs.system.is_finite.Statement.{statement}
+use Rattle.matrix.proofs.system.is_finite.Tie as tie
+
+is-finite-requires : tie.Need-is-finite-requires
+is-finite-requires c κs = search needs
+
+rows-are-finite-requires : tie.Need-rows-are-finite-requires
+rows-are-finite-requires c κs = search needs
+
+mul-blocks-are-finite : tie.Need-mul-blocks-are-finite
+mul-blocks-are-finite c = search needs
+
+sub-blocks-are-finite : tie.Need-sub-blocks-are-finite
+sub-blocks-are-finite c = search needs
+
+blocks-are-finite-requires : tie.Need-blocks-are-finite-requires
+blocks-are-finite-requires c κs = search needs
+
+returns : tie.Need-returns
+unfolding systemIsFinite
+returns c = simp (c .blocks-are-finite .ensures, c .before .rows-are-finite .ensures, c .before .before .is-finite .ensures)
+
+pub is-finite-spec : {M : Type 1} → statement M
+is-finite-spec =
+    tie.close
+    (tie.spec
+    is-finite-requires
+    rows-are-finite-requires
+    mul-blocks-are-finite
+    sub-blocks-are-finite
+    blocks-are-finite-requires
+    returns)
