@@ -6,3 +6,5 @@ pub mod Layout
 pub mod SparseSquare
 pub mod Pins
 pub mod System
+pub mod Area
+pub mod ConjugateGradient
