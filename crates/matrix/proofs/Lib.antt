@@ -2,9 +2,17 @@
 pub mod Parts
 pub mod RowLaws
 pub mod RowPlaces
+pub mod Cases
+pub mod Columns
 pub mod Products
 pub mod Every
 pub mod RowsPut
+pub mod BlockLaws
+pub mod SystemLaws
+pub mod Cleared
+pub mod Diagonals
+pub mod Assembly
+pub mod Shapes
 pub mod Descent
 pub mod Iteration
 pub mod Going

@@ -13,9 +13,9 @@ use Rattle.vectors.specs.Mat4.{mat4, mat4TimesVec4}
 use Rattle.vectors.specs.declared.vec4.Vec4.{Vec4}
 use Rattle.vectors.specs.declared.mat4.Mat4.{Mat4}
 use Rattle.matrix.specs.Parts.{part, table}
-use Rattle.matrix.specs.Rows.{row4, rows4, block16, blocks16}
+use Rattle.matrix.specs.Rows.{zeroRow, zeroBlock, row4, rows4, block16, blocks16}
 use Rattle.matrix.specs.Layout.{before, after, rowLength, rowStart}
-use Rattle.matrix.specs.SparseSquare.{zeroRow, zeroBlock, addProducts, rowTimes, matrixRows, multVec}
+use Rattle.matrix.specs.SparseSquare.{addProducts, rowTimes, matrixRows, multVec}
 use Rattle.matrix.proofs.Parts.{table-ext, getD-table, length-part, getD-part, part-table}
 use Rattle.matrix.proofs.RowLaws.{Stored, unstored}
 use Rattle.matrix.proofs.RowPlaces.{before-le, after-le, row-length}
@@ -131,12 +131,19 @@ pub rows-unstored : {w v : List Float} {o : ℕ} {f : ℕ → Vec4} {i : ℕ} �
 unfolding rows4
 rows-unstored s a m h = table-ext m _ _ (λ k b. unstored s (a + 4 * k) (λ j x y. h j (omega arith) (omega arith)))
 
+pub block-unstored : {w v : List Float} {o : ℕ} {f : ℕ → Vec4} {i : ℕ} → Stored w v o f i → (k : ℕ) → ((j : ℕ) → k ≤ j → j < k + 16 → o ≤ j → j < o + 4 * i → ⊥) → block16 v k ≡ block16 w k
+unfolding block16
+block-unstored s k h =
+    rw (
+      unstored s k (λ j x y. h j (omega arith) (omega arith)),
+      unstored s (k + 4) (λ j x y. h j (omega arith) (omega arith)),
+      unstored s (k + 8) (λ j x y. h j (omega arith) (omega arith)),
+      unstored s (k + 12) (λ j x y. h j (omega arith) (omega arith)),
+    )
+
 pub blocks-unstored : {w v : List Float} {o : ℕ} {f : ℕ → Vec4} {i : ℕ} → Stored w v o f i → (a m : ℕ) → a + 16 * m ≤ o → blocks16 v a m ≡ blocks16 w a m
-unfolding blocks16 block16
-blocks-unstored {w} {v} {o} {f} {i} s a m h = table-ext m _ _ (λ k b. columns (a + 16 * k) (omega arith))
-  where
-    columns : (k : ℕ) → k + 16 ≤ o → mat4 (row4 v k) (row4 v (k + 4)) (row4 v (k + 8)) (row4 v (k + 12)) ≡ mat4 (row4 w k) (row4 w (k + 4)) (row4 w (k + 8)) (row4 w (k + 12))
-    columns k b = rw (unstored s k (λ j x y z t. omega arith), unstored s (k + 4) (λ j x y z t. omega arith), unstored s (k + 8) (λ j x y z t. omega arith), unstored s (k + 12) (λ j x y z t. omega arith))
+unfolding blocks16
+blocks-unstored s a m h = table-ext m _ _ (λ k b. block-unstored s (a + 16 * k) (λ j x y z t. omega arith))
 
 -- row k of the product, by where things stand in the area
 abbrev pub rowAt : List Float → ℕ → ℕ → ℕ → ℕ → Vec4

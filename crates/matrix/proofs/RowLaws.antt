@@ -25,6 +25,19 @@ unfolding flat4 numbers4
 length-flat4 [] = refl
 length-flat4 (v ∷ vs) = omega (arith, length-flat4 vs)
 
+pub length-rows : (n : ℕ) (f : ℕ → Vec4) → length (flat4 (table n f)) ≡ 4 * n
+length-rows n f = length-flat4 (table n f) ∙ ap (λ (k : ℕ). 4 * k) (length-table n f)
+
+-- four rows stored one behind the other
+pub put-rows : (w : List Float) {w₁ w₂ w₃ w₄ : List Float} (o : ℕ) (a b c d : Vec4) → w₁ ≡ put w o (numbers4 a) → w₂ ≡ put w₁ (o + 4) (numbers4 b) → w₃ ≡ put w₂ (o + 8) (numbers4 c) → w₄ ≡ put w₃ (o + 12) (numbers4 d)
+    → w₄ ≡ put w o (flat4 (a ∷ b ∷ c ∷ d ∷ []))
+unfolding flat4 numbers4 put
+put-rows w o a b c d e₁ e₂ e₃ e₄ =
+    let f₁ : o + 4 ≡ suc (suc (suc (suc o))) = omega arith in
+    let f₂ : o + 8 ≡ suc (suc (suc (suc (o + 4)))) = omega arith in
+    let f₃ : o + 12 ≡ suc (suc (suc (suc (o + 8)))) = omega arith in
+    rw (e₄, e₃, e₂, e₁, f₃, f₂, f₁)
+
 -- ---- a loop that stores rows: v is w after i turns
 pub record Stored (w v : List Float) (o : ℕ) (f : ℕ → Vec4) (i : ℕ) : Type 0 where
   pub is : v ≡ put w o (flat4 (table i f))
@@ -36,23 +49,17 @@ stored-none w o f = record { is = sym (put-none w o); long = refl }
 
 pub stored-more : {w v u : List Float} {o : ℕ} {f : ℕ → Vec4} {i : ℕ} {r : Vec4} → Stored w v o f i → u ≡ put v (o + 4 * i) (numbers4 r) → r ≡ f i → Stored w u o f (i + 1)
 stored-more {w} {v} {u} {o} {f} {i} {r} s e q = record {
-  is = rw (e, s .is, q, add-one i, table-snoc i f, flat4-snoc (table i f) (f i)) (ap (λ (k : ℕ). put (put w o (flat4 (table i f))) (o + k) (numbers4 (f i))) (sym many) ∙ sym (put-append w o (flat4 (table i f)) (numbers4 (f i))));
+  is = rw (e, s .is, q, add-one i, table-snoc i f, flat4-snoc (table i f) (f i)) (ap (λ (k : ℕ). put (put w o (flat4 (table i f))) (o + k) (numbers4 (f i))) (sym (length-rows i f)) ∙ sym (put-append w o (flat4 (table i f)) (numbers4 (f i))));
   long = rw e (length-put v (o + 4 * i) (numbers4 r) ∙ s .long);
 }
-  where
-    many : length (flat4 (table i f)) ≡ 4 * i
-    many = length-flat4 (table i f) ∙ ap (λ (k : ℕ). 4 * k) (length-table i f)
 
 -- a row that is apart from those stored so far
 pub unstored : {w v : List Float} {o : ℕ} {f : ℕ → Vec4} {i : ℕ} → Stored w v o f i → (k : ℕ) → ((j : ℕ) → k ≤ j → j < k + 4 → o ≤ j → j < o + 4 * i → ⊥) → row4 v k ≡ row4 w k
 unfolding row4
 unstored {w} {v} {o} {f} {i} s k h = rw (s .is, old k (omega arith) (omega arith), old (k + 1) (omega arith) (omega arith), old (k + 2) (omega arith) (omega arith), old (k + 3) (omega arith) (omega arith))
   where
-    many : length (flat4 (table i f)) ≡ 4 * i
-    many = length-flat4 (table i f) ∙ ap (λ (x : ℕ). 4 * x) (length-table i f)
-
     old : (j : ℕ) → k ≤ j → j < k + 4 → getD (put w o (flat4 (table i f))) j nan ≡ getD w j nan
-    old j a b = getD-outside w o (flat4 (table i f)) j nan (λ l m. h j a b l (omega (arith, many)))
+    old j a b = getD-outside w o (flat4 (table i f)) j nan (λ l m. h j a b l (omega (arith, length-rows i f)))
 
 pub stored-all : {w v : List Float} {o : ℕ} {f : ℕ → Vec4} {i n : ℕ} → Stored w v o f i → i ≡ n → v ≡ put w o (flat4 (table n f))
 stored-all s e = rw (← e) (s .is)

@@ -9,13 +9,13 @@ use lib.Seq.{ext-getD, getD-drop}
 use lib.Ieee.{Float, nan}
 use Rattle.vectors.specs.declared.vec4.Vec4.{Vec4}
 use Rattle.matrix.specs.Parts.{put, table}
-use Rattle.matrix.specs.Rows.{row4, rows4, numbers4, flat4}
+use Rattle.matrix.specs.Rows.{zeroRow, row4, rows4, numbers4, flat4}
 use Rattle.matrix.specs.Layout.{rowStart, rowLength, matrixNumbers}
 use Rattle.matrix.specs.Area.{placePositions, afterVectors}
-use Rattle.matrix.specs.SparseSquare.{zeroRow, matrixRows}
+use Rattle.matrix.specs.SparseSquare.{matrixRows}
 use Rattle.matrix.specs.ConjugateGradient.{Kept}
-use Rattle.matrix.proofs.Parts.{length-table, table-ext, length-put, getD-outside, getD-inside}
-use Rattle.matrix.proofs.RowLaws.{Stored, length-flat4}
+use Rattle.matrix.proofs.Parts.{table-ext, length-put, getD-outside, getD-inside}
+use Rattle.matrix.proofs.RowLaws.{Stored, length-flat4, length-rows}
 use Rattle.matrix.proofs.RowPlaces.{row-fits}
 use Rattle.matrix.proofs.Products.{blocks-unstored}
 
@@ -69,22 +69,19 @@ rows-put w v o n x e l room = record {
         )
 
 -- the matrix stands before every vector
-matrix-kept : {w v : List Float} {o : ℕ} {f : ℕ → Vec4} {m : ℕ} → Stored w v o f m → (n : ℕ) → matrixNumbers ≤ o → 2 ≤ n → n ≤ 32 → matrixRows v n ≡ matrixRows w n
+pub matrix-kept : {w v : List Float} {o : ℕ} {f : ℕ → Vec4} {m : ℕ} → Stored w v o f m → (n : ℕ) → matrixNumbers ≤ o → 2 ≤ n → n ≤ 32 → matrixRows v n ≡ matrixRows w n
 unfolding matrixRows
 matrix-kept s n h a b = table-ext n _ _ (λ i c. blocks-unstored s (16 * rowStart n i) (rowLength n i) (omega (arith, row-fits n i c a b)))
 
 -- what stands after the vectors
-after-kept : {w v : List Float} {o : ℕ} {f : ℕ → Vec4} {n : ℕ} → Stored w v o f n → o + 4 * n ≤ placePositions → afterVectors v ≡ afterVectors w
+pub after-kept : {w v : List Float} {o : ℕ} {f : ℕ → Vec4} {n : ℕ} → Stored w v o f n → o + 4 * n ≤ placePositions → afterVectors v ≡ afterVectors w
 unfolding afterVectors
 after-kept {w} {v} {o} {f} {n} s h =
     ext-getD nan (drop placePositions v) (drop placePositions w) (rw (length-drop placePositions v, length-drop placePositions w, s .long))
     (λ i b. getD-drop placePositions v i nan ∙ old (placePositions + i) (omega arith) ∙ sym (getD-drop placePositions w i nan))
   where
-    many : length (flat4 (table n f)) ≡ 4 * n
-    many = length-flat4 (table n f) ∙ ap (λ (k : ℕ). 4 * k) (length-table n f)
-
     old : (k : ℕ) → placePositions ≤ k → getD v k nan ≡ getD w k nan
-    old k b = rw (s .is) (getD-outside w o (flat4 (table n f)) k nan (λ l m. omega (arith, many)))
+    old k b = rw (s .is) (getD-outside w o (flat4 (table n f)) k nan (λ l m. omega (arith, length-rows n f)))
 
 pub kept : {w v : List Float} {o : ℕ} {f : ℕ → Vec4} {n : ℕ} → Stored w v o f n → (2 ≤ n) × (n ≤ 32) → matrixNumbers ≤ o → o + 4 * n ≤ placePositions → Kept n w v
 kept s h a b = record { matrix = matrix-kept s _ a (h .0) (h .1); after = after-kept s b }

@@ -1,5 +1,7 @@
 -- The blocks of the matrix in the area: document 01, "Assembly" (stand-in for `vtx2vtx_rods`).
-use Prim.Native.Nat.{ℕ, zero, suc, _+_, _-_}
+use mathlib.Core.Bool.{cond}
+use Prim.Native.Nat.{ℕ, zero, suc, _+_, _-_, _≤_, _<_}
+use lib.Dec.{ltb}
 
 -- Row i holds columns i-2, i-1, i+1, i+2 that exist, upward: so many before the row's own column.
 unfoldable pub before : ℕ → ℕ
@@ -19,6 +21,24 @@ rowLength n i = before i + after n i + 1
 unfoldable pub rowStart : ℕ → ℕ → ℕ
 rowStart n zero = 0
 rowStart n (suc i) = rowStart n i + rowLength n i
+
+-- The column of the c-th block of row i: those before, those after, then its own.
+unfoldable pub columnAt : ℕ → ℕ → ℕ → ℕ
+columnAt n i c = cond (ltb c (before i)) (i - before i + c) (cond (ltb c (before i + after n i)) (i + 1 + (c - before i)) i)
+
+-- Where in row i the block of column j stands, and where it stands among all blocks.
+unfoldable pub columnPlace : ℕ → ℕ → ℕ → ℕ
+columnPlace n i j = cond (ltb j i) (before i + j - i) (cond (ltb i j) (before i + (j - suc i)) (before i + after n i))
+
+unfoldable pub blockPlace : ℕ → ℕ → ℕ → ℕ
+blockPlace n i j = rowStart n i + columnPlace n i j
+
+-- Vertices i and j of n have a block: they are at most two apart.
+pub record Near (n i j : ℕ) : Type 0 where
+  pub row : i < n
+  pub column : j < n
+  pub low : i ≤ j + 2
+  pub high : j ≤ i + 2
 
 -- The numbers that the blocks of at most 32 rows take in the work area: "The areas", 16 for each of 5 * 32 - 6 blocks.
 abbrev pub matrixNumbers : ℕ

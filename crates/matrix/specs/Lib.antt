@@ -4,7 +4,10 @@ pub mod Rows
 pub mod SliceOfArray
 pub mod Layout
 pub mod SparseSquare
+pub mod Blocks
 pub mod Pins
-pub mod System
 pub mod Area
+pub mod System
+pub mod HairSystem
+pub mod Loads
 pub mod ConjugateGradient

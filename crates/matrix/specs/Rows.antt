@@ -1,13 +1,29 @@
--- Rows of four numbers, and blocks of sixteen, in a flat list.
+-- Rows of three and of four numbers, and blocks of sixteen, in a flat list.
 use mathlib.Core.List.{List, [], _∷_, _++_}
 use Prim.Native.Nat.{ℕ, _+_, _*_}
 use lib.ListN.{getD}
 use lib.Ieee.{Float, nan}
+use Rattle.vectors.specs.Number.{plusZero}
+use Rattle.vectors.specs.Vec3.{vec3}
 use Rattle.vectors.specs.Vec4.{vec4}
 use Rattle.vectors.specs.Mat4.{mat4}
+use Rattle.vectors.specs.declared.vec3.Vec3.{Vec3}
 use Rattle.vectors.specs.declared.vec4.Vec4.{Vec4}
 use Rattle.vectors.specs.declared.mat4.Mat4.{Mat4}
 use Rattle.matrix.specs.Parts.{table}
+
+abbrev pub zeroRow : Vec4
+zeroRow = vec4 plusZero plusZero plusZero plusZero
+
+abbrev pub zeroBlock : Mat4
+zeroBlock = mat4 zeroRow zeroRow zeroRow zeroRow
+
+-- The vector that begins at o, and the n vectors from o on.
+unfoldable pub row3 : List Float → ℕ → Vec3
+row3 l o = vec3 (getD l o nan) (getD l (o + 1) nan) (getD l (o + 2) nan)
+
+unfoldable pub rows3 : List Float → ℕ → ℕ → List Vec3
+rows3 l o n = table n (λ i. row3 l (o + 3 * i))
 
 -- The row that begins at o.
 unfoldable pub row4 : List Float → ℕ → Vec4
@@ -31,3 +47,7 @@ numbers4 v = v .x ∷ v .y ∷ v .z ∷ v .w ∷ []
 unfoldable pub flat4 : List Vec4 → List Float
 flat4 [] = []
 flat4 (v ∷ vs) = numbers4 v ++ flat4 vs
+
+-- A block's numbers.
+unfoldable pub numbers16 : Mat4 → List Float
+numbers16 m = flat4 (m .c0 ∷ m .c1 ∷ m .c2 ∷ m .c3 ∷ [])

@@ -3,13 +3,14 @@ use mathlib.Core.List.{List, [], _∷_, zipWith}
 use Prim.Native.Nat.{ℕ}
 use lib.Ieee.{Float}
 use Rattle.vectors.specs.Number.{_⊕_, plusZero}
-use Rattle.vectors.specs.Vec4.{vec4, vec4Add, vec4Scale, vec4Dot}
+use Rattle.vectors.specs.Vec4.{vec4Add, vec4Scale, vec4Dot}
 use Rattle.vectors.specs.declared.vec4.Vec4.{Vec4}
 use Rattle.matrix.specs.Parts.{table}
+use Rattle.matrix.specs.Rows.{zeroRow}
 
 -- `set_zero`, lines 1 to 6
 unfoldable pub zeroRows : ℕ → List Vec4
-zeroRows n = table n (λ _. vec4 plusZero plusZero plusZero plusZero)
+zeroRows n = table n (λ _. zeroRow)
 
 -- `dot`, lines 8 to 16: s and the rows' products, upward; it begins with +0
 unfoldable pub dotFrom : Float → List Vec4 → List Vec4 → Float

@@ -4,19 +4,13 @@ use Prim.Native.Nat.{ℕ, _+_, _-_, _*_}
 use lib.ListN.{getD}
 use lib.Ieee.{Float}
 use Rattle.vectors.specs.Number.{plusZero}
-use Rattle.vectors.specs.Vec4.{vec4, vec4Add, vec4Scale}
-use Rattle.vectors.specs.Mat4.{mat4, mat4TimesVec4}
+use Rattle.vectors.specs.Vec4.{vec4Add, vec4Scale}
+use Rattle.vectors.specs.Mat4.{mat4TimesVec4}
 use Rattle.vectors.specs.declared.vec4.Vec4.{Vec4}
 use Rattle.vectors.specs.declared.mat4.Mat4.{Mat4}
 use Rattle.matrix.specs.Parts.{part, table}
-use Rattle.matrix.specs.Rows.{blocks16}
+use Rattle.matrix.specs.Rows.{zeroRow, zeroBlock, blocks16}
 use Rattle.matrix.specs.Layout.{before, after, rowLength, rowStart}
-
-abbrev pub zeroRow : Vec4
-zeroRow = vec4 plusZero plusZero plusZero plusZero
-
-abbrev pub zeroBlock : Mat4
-zeroBlock = mat4 zeroRow zeroRow zeroRow zeroRow
 
 -- s and the products of blocks with rows, upward
 unfoldable pub addProducts : Vec4 → List Mat4 → List Vec4 → Vec4

@@ -1,4 +1,5 @@
-// Where the vectors of the solve begin in the work area, after the blocks of the matrix.
+// Where the parts of the work area begin after the blocks of the matrix: the vectors of the solve,
+// and the positions and frames as a step would leave them.
 pub const R: usize = 2464;
 
 pub const U: usize = 2592;
@@ -6,3 +7,7 @@ pub const U: usize = 2592;
 pub const P: usize = 2720;
 
 pub const AP: usize = 2848;
+
+pub const POSITIONS: usize = 2976;
+
+pub const FRAMES: usize = 3072;

@@ -2,7 +2,7 @@
 // and the two after, as far as they exist, and then the block of its own vertex.
 ghost use mathlib.Core.Path.{_≡_};
 ghost use Prim.Native.Nat.{_≤_, _<_};
-ghost use Rattle.matrix.specs.Layout.{before, after, rowStart};
+ghost use Rattle.matrix.specs.Layout.{before, after, rowStart, blockPlace, Near};
 
 // How many of the two vertices before vertex i there are.
 pub fn count_before(i: usize) -> usize
@@ -31,4 +31,21 @@ pub fn row_start(n: usize, i: usize) -> usize
         return if i + 1 < n { 3 * i } else { 3 * i - 1 };
     }
     if i + 1 < n { 5 * i - 3 } else { 5 * i - 4 }
+}
+
+// Where among all blocks the one of row i and column j stands.
+pub fn block_place(n: usize, i: usize, j: usize) -> usize
+    requires { ⌜ Near n i j ⌝ }
+    requires { ⌜ (2 ≤ n) × (n ≤ 32) ⌝ }
+    ensures { λ r. ⌜ r ≡ blockPlace n i j ⌝ }
+{
+    let start = row_start(n, i);
+    let low = count_before(i);
+    if j < i {
+        return start + (low + j - i);
+    }
+    if i < j {
+        return start + (low + (j - (i + 1)));
+    }
+    start + (low + count_after(n, i))
 }

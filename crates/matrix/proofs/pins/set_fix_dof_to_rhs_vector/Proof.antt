@@ -9,7 +9,7 @@ use Rattle.vectors.specs.declared.vec4.Vec4.{Vec4}
 use Rattle.matrix.specs.Parts.{put, table}
 use Rattle.matrix.specs.Rows.{row4, rows4, flat4}
 use Rattle.matrix.specs.Pins.{rowUnlessFixed, setFixDofToRhsVector}
-use Rattle.matrix.specs.SparseSquare.{zeroRow}
+use Rattle.matrix.specs.Rows.{zeroRow}
 use Rattle.matrix.proofs.Parts.{table-ext, getD-table}
 use Rattle.matrix.proofs.RowLaws.{Stored, stored-none, stored-more, unstored, stored-all}
 use Rattle.matrix.proofs.pins.set_fix_dof_to_rhs_vector.Statement.{statement}

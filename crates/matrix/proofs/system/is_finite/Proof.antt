@@ -1,6 +1,13 @@
 -- What the calls promise, put together, is the definition.
 use borrow.Author.Needs.{needs}
-use Rattle.matrix.specs.System.{systemIsFinite}
+use Prim.Native.Nat.{ℕ}
+use mathlib.Core.Path.{sym, ap, _∙_}
+use Rattle.vectors.specs.Finite.{mat4IsFinite}
+use Rattle.matrix.specs.Rows.{blocks16}
+use Rattle.matrix.specs.SparseSquare.{matrixRows}
+use Rattle.matrix.specs.System.{every, systemAt, systemIsFinite}
+use Rattle.matrix.proofs.RowPlaces.{all-blocks}
+use Rattle.matrix.proofs.Every.{every-row}
 use Rattle.matrix.proofs.system.is_finite.Statement.{statement}
 use Rattle.matrix.proofs.system.is_finite.Tie as tie
 
@@ -20,8 +27,12 @@ blocks-are-finite-requires : tie.Need-blocks-are-finite-requires
 blocks-are-finite-requires c κs = search needs
 
 returns : tie.Need-returns
-unfolding systemIsFinite
-returns c = simp (c .blocks-are-finite .ensures, c .before .rows-are-finite .ensures, c .before .before .is-finite .ensures)
+unfolding systemIsFinite systemAt matrixRows
+returns c =
+    let n = c .before .before .before .before .args .n in
+    let w = c .before .before .before .before .args .work .now in
+    let e = ap (λ (k : ℕ). every mat4IsFinite (blocks16 w 0 k)) (sym (all-blocks n (c .before .before .before .before .pre .0 .0))) ∙ every-row mat4IsFinite w n n in
+    simp (c .blocks-are-finite .ensures, c .before .rows-are-finite .ensures, c .before .before .is-finite .ensures, e)
 
 pub is-finite-spec : {M : Type 1} → statement M
 is-finite-spec =
