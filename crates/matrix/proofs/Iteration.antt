@@ -15,7 +15,7 @@ use Rattle.matrix.specs.Area.{placeU}
 use Rattle.matrix.specs.ConjugateGradient.{Solving, solvingAt, started, descended, redirected, Outcome, outcome, ratioOf, iterated, epsilon, conjugateGradient}
 
 module _ (n : ℕ) (rows : List (List Mat4)) (inverse tolerance : Float) where
-  stopped : (left : ℕ) (o : Outcome) (s : Solving) → iterated n rows inverse tolerance left true o s ≡ o
+  pub stopped : (left : ℕ) (o : Outcome) (s : Solving) → iterated n rows inverse tolerance left true o s ≡ o
   unfolding iterated
   stopped zero o s = refl
   stopped (suc left) o s = refl

@@ -15,5 +15,6 @@ pub mod Assembly
 pub mod Shapes
 pub mod Descent
 pub mod Iteration
+pub mod Iterations
 pub mod Going
 pub mod AreaMap

@@ -11,3 +11,4 @@ pub mod System
 pub mod HairSystem
 pub mod Loads
 pub mod ConjugateGradient
+pub mod Iterations
