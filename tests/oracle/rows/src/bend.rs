@@ -86,13 +86,13 @@ pub fn gradient_of_dot_frame_axis(rows: &mut Rows) {
         rows.inputs("dvdp", &dvdp);
         rows.input("dvdt", &dvdt);
         rows.input("c", &[c]);
-        rows.input_axis("i0_axis", i0_axis);
+        rows.input_whole("i0_axis", i0_axis);
         rows.inputs("frma", &frma);
         for (axis, dfadp) in dfadp.iter().enumerate() {
             rows.input(&format!("dfadp{axis}"), dfadp.as_flattened());
         }
         rows.inputs("dfadt", &dfadt);
-        rows.input_axis("i1_axis", i1_axis);
+        rows.input_whole("i1_axis", i1_axis);
         rows.inputs("frmb", &frmb);
         for (axis, dfbdp) in dfbdp.iter().enumerate() {
             rows.input(&format!("dfbdp{axis}"), dfbdp.as_flattened());

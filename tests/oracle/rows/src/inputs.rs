@@ -57,3 +57,31 @@ impl Piece {
         ([x, vec3::cross(&z, &x), z], vec3::norm(&self.edge(i)))
     }
 }
+
+/// A free strand of three vertices, deformed from its rest shape, and what acts on it.
+pub struct Strand {
+    pub rest: [[f64; 3]; 3],
+    pub now: [[f64; 3]; 3],
+    /// Where the frames come from, as in a piece. The last vertex has no edge, and its frame no use.
+    pub rest_axes: [[f64; 3]; 3],
+    pub now_axes: [[f64; 3]; 3],
+    pub stiff_length: f64,
+    pub stiff_bendtwist: [f64; 3],
+    /// A vertex and its goal.
+    pub pick: (usize, [f64; 3]),
+    pub dt: f64,
+    /// Nonzero is pinned.
+    pub pins: [[i32; 4]; 3],
+}
+
+pub const STRAND: Strand = Strand {
+    rest: [[0.12, -0.35, 0.48], [0.97, 0.21, 0.83], [1.46, 1.18, 0.37]],
+    now: [[0.15, -0.31, 0.42], [1.08, 0.27, 0.71], [1.39, 1.33, 0.53]],
+    rest_axes: [[0.3, -0.7, 0.9], [-0.8, 0.4, 0.6], [0.5, 0.2, -0.9]],
+    now_axes: [[0.4, -0.6, 0.8], [-0.7, 0.5, 0.9], [0.6, 0.1, -0.8]],
+    stiff_length: 0.7,
+    stiff_bendtwist: [1.3, 0.9, 1.1],
+    pick: (1, [1.09, 0.31, 0.58]),
+    dt: 0.3,
+    pins: [[0, 7, 0, 0], [0, 0, 255, 0], [0, 0, 0, 1]],
+};

@@ -1,15 +1,16 @@
-//! Prints what the unchanged element functions return, bit by bit.
+//! Prints what the unchanged functions return, bit by bit: the elements, and the system of a strand.
 //!
 //! A row is a line `fn NAME`, a line `in LABEL ..` for each argument and a line `out LABEL ..` for
-//! each result. A number stands as the 16 hexadecimal digits of its f64 bits; an axis, which is a
-//! whole number, as one decimal digit. A label is the name in the Rust, some of them shortened,
-//! with the outer indices behind it: `dcdp01` is `dcdp[0][1]`. Numbers stand in memory order, but
-//! for the stretch block, which stands once, as `m`, by rows.
+//! each result. A number stands as the 16 hexadecimal digits of its f64 bits; a whole number (an
+//! axis, a vertex, a pin, a limit, a count) in decimal digits. A label is the name in the Rust, some
+//! of them shortened, with the outer indices behind it: `dcdp01` is `dcdp[0][1]`. Numbers stand in
+//! memory order, but for the stretch block, which stands once, as `m`, by rows.
 
 mod bend;
 mod inputs;
 mod print;
 mod stretch;
+mod system;
 mod turn;
 
 fn main() {
@@ -21,6 +22,7 @@ fn main() {
     bend::darboux_gradient(&mut rows);
     bend::hair_approx_hessian(&mut rows);
     turn::frame(&mut rows);
+    system::strand(&mut rows);
     print!("{}", rows.text());
     eprintln!("{} rows", rows.count());
 }

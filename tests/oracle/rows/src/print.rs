@@ -44,9 +44,19 @@ impl Rows {
         }
     }
 
-    /// An axis, a whole number from 0 to 2.
-    pub fn input_axis(&mut self, label: &str, axis: usize) {
-        writeln!(self.text, "in {label} {axis}").unwrap();
+    pub fn input_whole(&mut self, label: &str, whole: usize) {
+        writeln!(self.text, "in {label} {whole}").unwrap();
+    }
+
+    pub fn output_whole(&mut self, label: &str, whole: usize) {
+        writeln!(self.text, "out {label} {whole}").unwrap();
+    }
+
+    /// One line for each vertex: `label0`, `label1`, ..
+    pub fn input_pins(&mut self, label: &str, vertices: &[[i32; 4]]) {
+        for (i, [x, y, z, twist]) in vertices.iter().enumerate() {
+            writeln!(self.text, "in {label}{i} {x} {y} {z} {twist}").unwrap();
+        }
     }
 
     fn line(&mut self, direction: &str, label: &str, numbers: &[f64]) {
@@ -56,4 +66,9 @@ impl Rows {
         }
         self.text.push('\n');
     }
+}
+
+/// For comparing: to the sign of zero.
+pub fn bits<const N: usize>(vectors: &[[f64; N]]) -> Vec<u64> {
+    vectors.iter().flatten().map(|x| x.to_bits()).collect()
 }

@@ -1,7 +1,7 @@
 //! Stretch: `spring3.rs`.
 
 use crate::inputs::PIECES;
-use crate::print::Rows;
+use crate::print::{bits, Rows};
 use reference::spring3::wdwddw_squared_length_difference;
 use std::array::from_fn;
 
@@ -54,8 +54,4 @@ fn check_worked_example((w, dw, ddw): Stretch) {
     assert_eq!(bits(&dw), bits(&[[-1.0, 0.0, 0.0], [1.0, -0.0, -0.0]]));
     let m = [1.0, 0.0, 0.0, 0.0, 0.5, 0.0, 0.0, 0.0, 0.5];
     assert_eq!(bits(&ddw[0][..1]), bits(&[m]));
-}
-
-fn bits<const N: usize>(vectors: &[[f64; N]]) -> Vec<u64> {
-    vectors.iter().flatten().map(|x| x.to_bits()).collect()
 }
