@@ -1,4 +1,4 @@
--- The laws behind the crate's proofs.
+-- The laws behind the crate's proofs, and the samples.
 pub mod Parts
 pub mod RowLaws
 pub mod RowPlaces
@@ -18,3 +18,4 @@ pub mod Iteration
 pub mod Iterations
 pub mod Going
 pub mod AreaMap
+mod Samples

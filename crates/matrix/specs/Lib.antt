@@ -1,4 +1,4 @@
--- What the crate's contracts cite.
+-- What the crate's contracts cite, and samples of it.
 pub mod Parts
 pub mod Rows
 pub mod SliceOfArray
@@ -12,3 +12,7 @@ pub mod HairSystem
 pub mod Loads
 pub mod ConjugateGradient
 pub mod Iterations
+pub mod Opened
+pub mod Written
+pub mod SamplesSystem
+pub mod SamplesSolve
