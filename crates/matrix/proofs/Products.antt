@@ -1,9 +1,8 @@
--- Products of blocks and rows: one more of a sum, and a row of the matrix in terms of where its blocks and the vector's rows stand.
+-- Products of blocks and rows: a sum of up to two, and a row of the matrix in terms of where its blocks and the vector's rows stand.
 use mathlib.Core.Path.{_≡_, refl, sym, ap, _∙_}
 use mathlib.Core.List.{List, []}
-use Prim.Native.Nat.{ℕ, zero, suc, _+_, _-_, _*_, _≤_, _<_}
+use Prim.Native.Nat.{ℕ, _+_, _-_, _*_, _≤_, _<_}
 use native.Mathlib.Nat.{add-assoc}
-use native.Mathlib.Numerals.{add-one}
 use native.Mathlib.Omega.{arith}
 use lib.ListN.{length, getD, take, drop}
 use lib.Ieee.{Float, nan}
@@ -20,11 +19,22 @@ use Rattle.matrix.proofs.Parts.{table-ext, getD-table, length-part, get
 use Rattle.matrix.proofs.RowLaws.{Stored, unstored}
 use Rattle.matrix.proofs.RowPlaces.{before-le, after-le, row-length}
 
--- one product more
-pub products-more : (s : Vec4) (n : ℕ) (a : ℕ → Mat4) (b : ℕ → Vec4) → addProducts s (table (n + 1) a) (table (n + 1) b) ≡ vec4Add (addProducts s (table n a) (table n b)) (mat4TimesVec4 (a n) (b n))
-unfolding addProducts table
-products-more s zero a b = refl
-products-more s (suc n) a b = rw (add-one (suc n)) (rw (add-one n) at (products-more (vec4Add s (mat4TimesVec4 (a zero) (b zero))) n (λ i. a (suc i)) (λ i. b (suc i))))
+-- none, one or two products, by where their blocks and rows stand
+module _ (m x : List Float) (a b n : ℕ) (s : Vec4) where
+  first : vec4Add s (mat4TimesVec4 (block16 m a) (row4 x b)) ≡ vec4Add s (mat4TimesVec4 (block16 m (a + 0)) (row4 x (b + 0)))
+  first = ap (λ (k : ℕ). vec4Add s (mat4TimesVec4 (block16 m k) (row4 x b))) (omega arith) ∙ ap (λ (k : ℕ). vec4Add s (mat4TimesVec4 (block16 m (a + 0)) (row4 x k))) (omega arith)
+
+  pub no-products : n ≡ 0 → s ≡ addProducts s (blocks16 m a n) (rows4 x b n)
+  unfolding addProducts blocks16 rows4 table
+  no-products e = rw e refl
+
+  pub one-product : {r : Vec4} → n ≡ 1 → r ≡ vec4Add s (mat4TimesVec4 (block16 m a) (row4 x b)) → r ≡ addProducts s (blocks16 m a n) (rows4 x b n)
+  unfolding addProducts blocks16 rows4 table
+  one-product e h = rw e (h ∙ first)
+
+  pub two-products : {r t : Vec4} → n ≡ 2 → t ≡ vec4Add s (mat4TimesVec4 (block16 m a) (row4 x b)) → r ≡ vec4Add t (mat4TimesVec4 (block16 m (a + 16)) (row4 x (b + 4))) → r ≡ addProducts s (blocks16 m a n) (rows4 x b n)
+  unfolding addProducts blocks16 rows4 table
+  two-products e h k = rw e (k ∙ ap (λ (t : Vec4). vec4Add t (mat4TimesVec4 (block16 m (a + 16)) (row4 x (b + 4)))) (h ∙ first))
 
 -- parts of blocks and of rows
 part-blocks : (d : Mat4) (l : List Float) (a k o m b : ℕ) → o + m ≤ k → b ≡ a + 16 * o → part (blocks16 l a k) o m ≡ blocks16 l b m
@@ -45,13 +55,13 @@ row-at d l a k o b h e = getD-table k _ o d h ∙ ap (row4 l) (sym e)
 
 -- what `row_product` works out
 module _ (n i : ℕ) (row x : List Float) (old : Vec4) (h : i < n) where
-  pub row-times : {s0 s1 s2 r v : Vec4} {m : Mat4} → s0 ≡ vec4Scale old plusZero
+  pub row-times : {s0 s1 s2 r : Vec4} → s0 ≡ vec4Scale old plusZero
       → s1 ≡ addProducts s0 (blocks16 row 0 (before i)) (rows4 x (4 * (i - before i)) (before i))
       → s2 ≡ addProducts s1 (blocks16 row (16 * before i) (after n i)) (rows4 x (4 * (i + 1)) (after n i))
-      → m ≡ block16 row (16 * (before i + after n i)) → v ≡ row4 x (4 * i) → r ≡ vec4Add s2 (mat4TimesVec4 m v)
+      → r ≡ vec4Add s2 (mat4TimesVec4 (block16 row (16 * (before i + after n i))) (row4 x (4 * i)))
       → r ≡ rowTimes n i (blocks16 row 0 (rowLength n i)) (rows4 x 0 n) old
   unfolding rowTimes rowLength
-  row-times e0 e1 e2 em ev e =
+  row-times e0 e1 e2 e =
       let b = before-le i in
       let a = after-le n i h in
       let k = before i + after n i + 1 in
@@ -60,8 +70,6 @@ module _ (n i : ℕ) (row x : List Float) (old : Vec4) (h : i < n) where
         e2,
         e1,
         e0,
-        em,
-        ev,
         part-blocks zeroBlock row 0 k 0 (before i) 0 (omega arith) (omega arith),
         part-rows zeroRow x 0 n (i - before i) (before i) (4 * (i - before i)) (omega arith) (omega arith),
         part-blocks zeroBlock row 0 k (before i) (after n i) (16 * before i) (omega arith) (omega arith),

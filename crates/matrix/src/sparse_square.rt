@@ -7,26 +7,57 @@ use vectors::vec4::Vec4;
 ghost use mathlib.Core.Path.{_≡_};
 ghost use Prim.Native.Nat.{_+_, _*_, _≤_, _<_};
 ghost use lib.ListN.{length};
+ghost use Rattle.vectors.specs.Vec4.{vec4Add};
+ghost use Rattle.vectors.specs.Mat4.{mat4TimesVec4};
 ghost use Rattle.matrix.specs.Parts.{put, Apart};
-ghost use Rattle.matrix.specs.Rows.{row4, rows4, blocks16, flat4};
+ghost use Rattle.matrix.specs.Rows.{row4, rows4, block16, blocks16, flat4};
 ghost use Rattle.matrix.specs.Layout.{rowLength, rowStart, matrixNumbers};
 ghost use Rattle.matrix.specs.SparseSquare.{addProducts, rowTimes, matrixRows, multVec};
 
-// y and the products of `count` blocks of m, from `at` on, with as many rows of x, from `from` on.
-fn add_products(m: &[f64], at: usize, x: &[f64], from: usize, count: usize, y: Vec4) -> Vec4
-    requires { ⌜ at + 16 * count ≤ length (now m) ⌝ }
-    requires { ⌜ from + 4 * count ≤ length (now x) ⌝ }
-    ensures { λ r. ⌜ r ≡ addProducts y (blocks16 (now (m .entry)) at count) (rows4 (now (x .entry)) from count) ⌝ }
+// s and the product of the block of m that begins at `at` with the row of x that begins at `from`.
+fn add_product(m: &[f64], at: usize, x: &[f64], from: usize, s: Vec4) -> Vec4
+    requires { ⌜ at + 16 ≤ length (now m) ⌝ }
+    requires { ⌜ from + 4 ≤ length (now x) ⌝ }
+    ensures { λ r. ⌜ r ≡ vec4Add s (mat4TimesVec4 (block16 (now (m .entry)) at) (row4 (now (x .entry)) from)) ⌝ }
 {
-    let mut s = y;
-    let mut k = 0;
-    while k < count {
-        let b = rows::load_block(m, at + 16 * k);
-        let v = rows::load4(x, from + 4 * k);
-        s = vec4::add(s, mat4::mult_vec(b, v));
-        k += 1;
+    let b = rows::load_block(m, at);
+    let v = rows::load4(x, from);
+    vec4::add(s, mat4::mult_vec(b, v))
+}
+
+// y and the products of a row's first `low` blocks with as many rows of x, from `from` on.
+fn add_before(row: &[f64], x: &[f64], from: usize, low: usize, y: Vec4) -> Vec4
+    requires { ⌜ low ≤ 2 ⌝ }
+    requires { ⌜ 16 * low ≤ length (now row) ⌝ }
+    requires { ⌜ from + 4 * low ≤ length (now x) ⌝ }
+    ensures { λ r. ⌜ r ≡ addProducts y (blocks16 (now (row .entry)) 0 low) (rows4 (now (x .entry)) from low) ⌝ }
+{
+    if low == 0 {
+        return y;
     }
-    s
+    let s = add_product(row, 0, x, from, y);
+    if low == 1 {
+        return s;
+    }
+    add_product(row, 16, x, from + 4, s)
+}
+
+// The same for `high` blocks, from `at` on. It is a function of its own, since one that is called
+// twice would not be compiled in place.
+fn add_after(row: &[f64], at: usize, x: &[f64], from: usize, high: usize, y: Vec4) -> Vec4
+    requires { ⌜ high ≤ 2 ⌝ }
+    requires { ⌜ at + 16 * high ≤ length (now row) ⌝ }
+    requires { ⌜ from + 4 * high ≤ length (now x) ⌝ }
+    ensures { λ r. ⌜ r ≡ addProducts y (blocks16 (now (row .entry)) at high) (rows4 (now (x .entry)) from high) ⌝ }
+{
+    if high == 0 {
+        return y;
+    }
+    let s = add_product(row, at, x, from, y);
+    if high == 1 {
+        return s;
+    }
+    add_product(row, at + 16, x, from + 4, s)
 }
 
 // The blocks of row i times the vector x of n rows; `old` is what the product was before.
@@ -40,11 +71,9 @@ fn row_product(row: &[f64], x: &[f64], n: usize, i: usize, old: Vec4) -> Vec4
     let low = layout::count_before(i);
     let high = layout::count_after(n, i);
     let s0 = vec4::scale(old, 0.0);
-    let s1 = add_products(row, 0, x, 4 * (i - low), low, s0);
-    let s2 = add_products(row, 16 * low, x, 4 * (i + 1), high, s1);
-    let b = rows::load_block(row, 16 * (low + high));
-    let v = rows::load4(x, 4 * i);
-    vec4::add(s2, mat4::mult_vec(b, v))
+    let s1 = add_before(row, x, 4 * (i - low), low, s0);
+    let s2 = add_after(row, 16 * low, x, 4 * (i + 1), high, s1);
+    add_product(row, 16 * (low + high), x, 4 * i, s2)
 }
 
 // Row i of the matrix that stands at the beginning of the area, times the vector at p, from the old

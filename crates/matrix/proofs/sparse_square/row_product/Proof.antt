@@ -17,68 +17,56 @@ count-after-requires c κs = search needs
 scale-requires : tie.Need-scale-requires
 scale-requires c κs = search needs
 
-sub-add-products : tie.Need-sub-add-products
+sub-add-before : tie.Need-sub-add-before
 unfolding rowLength
-sub-add-products c = let s = c .before .before .before .before .before in omega (arith, s .pre .0, s .pre .1 .0, s .pre .1 .1 .0, s .pre .1 .1 .1, before-le (s .args .i), after-le (s .args .n) (s .args .i) (s .pre .0), c .before .before .count-before .ensures, c .before .count-after .ensures)
+sub-add-before c = let s = c .before .before .before .before .before in omega (arith, s .pre .0, s .pre .1 .0, s .pre .1 .1 .0, s .pre .1 .1 .1, before-le (s .args .i), after-le (s .args .n) (s .args .i) (s .pre .0), c .before .before .count-before .ensures, c .before .count-after .ensures)
 
-mul-add-products : tie.Need-mul-add-products
+mul-add-before : tie.Need-mul-add-before
 unfolding rowLength
-mul-add-products c = let s = c .before .before .before .before .before in omega (arith, s .pre .0, s .pre .1 .0, s .pre .1 .1 .0, s .pre .1 .1 .1, before-le (s .args .i), after-le (s .args .n) (s .args .i) (s .pre .0), c .before .before .count-before .ensures, c .before .count-after .ensures)
+mul-add-before c = let s = c .before .before .before .before .before in omega (arith, s .pre .0, s .pre .1 .0, s .pre .1 .1 .0, s .pre .1 .1 .1, before-le (s .args .i), after-le (s .args .n) (s .args .i) (s .pre .0), c .before .before .count-before .ensures, c .before .count-after .ensures)
 
-add-products-requires : tie.Need-add-products-requires
+add-before-requires : tie.Need-add-before-requires
 unfolding rowLength
-add-products-requires c κs = let s = c .before .before .before .before .before in omega (arith, s .pre .0, s .pre .1 .0, s .pre .1 .1 .0, s .pre .1 .1 .1, before-le (s .args .i), after-le (s .args .n) (s .args .i) (s .pre .0), c .before .before .count-before .ensures, c .before .count-after .ensures)
+add-before-requires c κs = let s = c .before .before .before .before .before in omega (arith, s .pre .0, s .pre .1 .0, s .pre .1 .1 .0, s .pre .1 .1 .1, before-le (s .args .i), after-le (s .args .n) (s .args .i) (s .pre .0), c .before .before .count-before .ensures, c .before .count-after .ensures)
 
-mul-add-products-2 : tie.Need-mul-add-products-2
+mul-add-after : tie.Need-mul-add-after
 unfolding rowLength
-mul-add-products-2 c = let s = c .before .before .before .before .before .before in omega (arith, s .pre .0, s .pre .1 .0, s .pre .1 .1 .0, s .pre .1 .1 .1, before-le (s .args .i), after-le (s .args .n) (s .args .i) (s .pre .0), c .before .before .before .count-before .ensures, c .before .before .count-after .ensures)
+mul-add-after c = let s = c .before .before .before .before .before .before in omega (arith, s .pre .0, s .pre .1 .0, s .pre .1 .1 .0, s .pre .1 .1 .1, before-le (s .args .i), after-le (s .args .n) (s .args .i) (s .pre .0), c .before .before .before .count-before .ensures, c .before .before .count-after .ensures)
 
-add-add-products : tie.Need-add-add-products
+add-add-after : tie.Need-add-add-after
 unfolding rowLength
-add-add-products c = let s = c .before .before .before .before .before .before in omega (arith, s .pre .0, s .pre .1 .0, s .pre .1 .1 .0, s .pre .1 .1 .1, before-le (s .args .i), after-le (s .args .n) (s .args .i) (s .pre .0), c .before .before .before .count-before .ensures, c .before .before .count-after .ensures)
+add-add-after c = let s = c .before .before .before .before .before .before in omega (arith, s .pre .0, s .pre .1 .0, s .pre .1 .1 .0, s .pre .1 .1 .1, before-le (s .args .i), after-le (s .args .n) (s .args .i) (s .pre .0), c .before .before .before .count-before .ensures, c .before .before .count-after .ensures)
 
-mul-add-products-3 : tie.Need-mul-add-products-3
+mul-add-after-2 : tie.Need-mul-add-after-2
 unfolding rowLength
-mul-add-products-3 c = let s = c .before .before .before .before .before .before in omega (arith, s .pre .0, s .pre .1 .0, s .pre .1 .1 .0, s .pre .1 .1 .1, before-le (s .args .i), after-le (s .args .n) (s .args .i) (s .pre .0), c .before .before .before .count-before .ensures, c .before .before .count-after .ensures)
+mul-add-after-2 c = let s = c .before .before .before .before .before .before in omega (arith, s .pre .0, s .pre .1 .0, s .pre .1 .1 .0, s .pre .1 .1 .1, before-le (s .args .i), after-le (s .args .n) (s .args .i) (s .pre .0), c .before .before .before .count-before .ensures, c .before .before .count-after .ensures)
 
-add-products-requires-2 : tie.Need-add-products-requires-2
+add-after-requires : tie.Need-add-after-requires
 unfolding rowLength
-add-products-requires-2 c κs = let s = c .before .before .before .before .before .before in omega (arith, s .pre .0, s .pre .1 .0, s .pre .1 .1 .0, s .pre .1 .1 .1, before-le (s .args .i), after-le (s .args .n) (s .args .i) (s .pre .0), c .before .before .before .count-before .ensures, c .before .before .count-after .ensures)
+add-after-requires c κs = let s = c .before .before .before .before .before .before in omega (arith, s .pre .0, s .pre .1 .0, s .pre .1 .1 .0, s .pre .1 .1 .1, before-le (s .args .i), after-le (s .args .n) (s .args .i) (s .pre .0), c .before .before .before .count-before .ensures, c .before .before .count-after .ensures)
 
-add-load-block : tie.Need-add-load-block
+add-add-product : tie.Need-add-add-product
 unfolding rowLength
-add-load-block c = let s = c .before .before .before .before .before .before .before in omega (arith, s .pre .0, s .pre .1 .0, s .pre .1 .1 .0, s .pre .1 .1 .1, before-le (s .args .i), after-le (s .args .n) (s .args .i) (s .pre .0), c .before .before .before .before .count-before .ensures, c .before .before .before .count-after .ensures)
+add-add-product c = let s = c .before .before .before .before .before .before .before in omega (arith, s .pre .0, s .pre .1 .0, s .pre .1 .1 .0, s .pre .1 .1 .1, before-le (s .args .i), after-le (s .args .n) (s .args .i) (s .pre .0), c .before .before .before .before .count-before .ensures, c .before .before .before .count-after .ensures)
 
-mul-load-block : tie.Need-mul-load-block
+mul-add-product : tie.Need-mul-add-product
 unfolding rowLength
-mul-load-block c = let s = c .before .before .before .before .before .before .before in omega (arith, s .pre .0, s .pre .1 .0, s .pre .1 .1 .0, s .pre .1 .1 .1, before-le (s .args .i), after-le (s .args .n) (s .args .i) (s .pre .0), c .before .before .before .before .count-before .ensures, c .before .before .before .count-after .ensures)
+mul-add-product c = let s = c .before .before .before .before .before .before .before in omega (arith, s .pre .0, s .pre .1 .0, s .pre .1 .1 .0, s .pre .1 .1 .1, before-le (s .args .i), after-le (s .args .n) (s .args .i) (s .pre .0), c .before .before .before .before .count-before .ensures, c .before .before .before .count-after .ensures)
 
-load-block-requires : tie.Need-load-block-requires
+mul-add-product-2 : tie.Need-mul-add-product-2
 unfolding rowLength
-load-block-requires c κs = let s = c .before .before .before .before .before .before .before in omega (arith, s .pre .0, s .pre .1 .0, s .pre .1 .1 .0, s .pre .1 .1 .1, before-le (s .args .i), after-le (s .args .n) (s .args .i) (s .pre .0), c .before .before .before .before .count-before .ensures, c .before .before .before .count-after .ensures)
+mul-add-product-2 c = let s = c .before .before .before .before .before .before .before in omega (arith, s .pre .0, s .pre .1 .0, s .pre .1 .1 .0, s .pre .1 .1 .1, before-le (s .args .i), after-le (s .args .n) (s .args .i) (s .pre .0), c .before .before .before .before .count-before .ensures, c .before .before .before .count-after .ensures)
 
-mul-load4 : tie.Need-mul-load4
+add-product-requires : tie.Need-add-product-requires
 unfolding rowLength
-mul-load4 c = let s = c .before .before .before .before .before .before .before .before in omega (arith, s .pre .0, s .pre .1 .0, s .pre .1 .1 .0, s .pre .1 .1 .1, before-le (s .args .i), after-le (s .args .n) (s .args .i) (s .pre .0), c .before .before .before .before .before .count-before .ensures, c .before .before .before .before .count-after .ensures)
-
-load4-requires : tie.Need-load4-requires
-unfolding rowLength
-load4-requires c κs = let s = c .before .before .before .before .before .before .before .before in omega (arith, s .pre .0, s .pre .1 .0, s .pre .1 .1 .0, s .pre .1 .1 .1, before-le (s .args .i), after-le (s .args .n) (s .args .i) (s .pre .0), c .before .before .before .before .before .count-before .ensures, c .before .before .before .before .count-after .ensures)
-
-mult-vec-requires : tie.Need-mult-vec-requires
-mult-vec-requires c κs = search needs
-
-add-requires : tie.Need-add-requires
-add-requires c κs = search needs
+add-product-requires c κs = let s = c .before .before .before .before .before .before .before in omega (arith, s .pre .0, s .pre .1 .0, s .pre .1 .1 .0, s .pre .1 .1 .1, before-le (s .args .i), after-le (s .args .n) (s .args .i) (s .pre .0), c .before .before .before .before .count-before .ensures, c .before .before .before .count-after .ensures)
 
 returns : tie.Need-returns
 returns c =
-    let s = c .before .before .before .before .before .before .before .before .before .before .before in
-    let low = c .before .before .before .before .before .before .before .before .count-before .ensures in
-    let high = c .before .before .before .before .before .before .before .count-after .ensures in
-    row-times (s .args .n) (s .args .i) (s .args .row .now) (s .args .x .now) (s .args .old) (s .pre .0) (c .before .before .before .before .before .before .scale .ensures) (rw low at (c .before .before .before .before .before .add-products .ensures)) (rw (low, high) at (c .before .before .before .before .add-products2 .ensures)) (rw (low, high) at (c .before .before .before .load-block .ensures))
-    (c .before .before .load4 .ensures)
-    (rw (c .before .mult-vec .ensures) at (c .add .ensures))
+    let s = c .before .before .before .before .before .before .before .before in
+    let low = c .before .before .before .before .before .count-before .ensures in
+    let high = c .before .before .before .before .count-after .ensures in
+    row-times (s .args .n) (s .args .i) (s .args .row .now) (s .args .x .now) (s .args .old) (s .pre .0) (c .before .before .before .scale .ensures) (rw low at (c .before .before .add-before .ensures)) (rw (low, high) at (c .before .add-after .ensures)) (rw (low, high) at (c .add-product .ensures))
 
 pub row-product-spec : {M : Type 1} → statement M
 row-product-spec =
@@ -87,18 +75,15 @@ row-product-spec =
     count-before-requires
     count-after-requires
     scale-requires
-    sub-add-products
-    mul-add-products
-    add-products-requires
-    mul-add-products-2
-    add-add-products
-    mul-add-products-3
-    add-products-requires-2
-    add-load-block
-    mul-load-block
-    load-block-requires
-    mul-load4
-    load4-requires
-    mult-vec-requires
-    add-requires
+    sub-add-before
+    mul-add-before
+    add-before-requires
+    mul-add-after
+    add-add-after
+    mul-add-after-2
+    add-after-requires
+    add-add-product
+    mul-add-product
+    mul-add-product-2
+    add-product-requires
     returns)

@@ -1,0 +1,35 @@
+-- None, one or two blocks, as the two tests tell.
+use borrow.Author.Needs.{needs}
+use native.Mathlib.Omega.{arith}
+use Rattle.matrix.proofs.Products.{no-products, one-product, two-products}
+use Rattle.matrix.proofs.sparse_square.add_before.Statement.{statement}
+use Rattle.matrix.proofs.sparse_square.add_before.Tie as tie
+
+returns : tie.Need-returns
+returns c = no-products _ _ _ _ _ _ (c .if1 .taken)
+
+add-product-requires : tie.Need-add-product-requires
+add-product-requires c κs = search needs
+
+returns-2 : tie.Need-returns-2
+returns-2 c = one-product _ _ _ _ _ _ (c .if2 .taken) (c .before .add-product .ensures)
+
+add-add-product : tie.Need-add-add-product
+add-add-product c = search needs
+
+add-product-requires-2 : tie.Need-add-product-requires-2
+add-product-requires-2 c κs = search needs
+
+returns-3 : tie.Need-returns-3
+returns-3 c = two-products _ _ _ _ _ _ (omega arith) (c .before .before .add-product .ensures) (c .add-product2 .ensures)
+
+pub add-before-spec : {M : Type 1} → statement M
+add-before-spec =
+    tie.close
+    (tie.spec
+    returns
+    add-product-requires
+    returns-2
+    add-add-product
+    add-product-requires-2
+    returns-3)
