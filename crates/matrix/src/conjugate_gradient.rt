@@ -32,8 +32,7 @@ fn descend(work: &mut [f64], n: usize, rho: f64) -> f64
     let pap = slice_of_array::dot(work, area::P, area::AP, n);
     let alpha = rho / pap;
     slice_of_array::add_scaled_vector(work, area::U, alpha, area::P, n);
-    slice_of_array::add_scaled_vector(work, area::R, -alpha, area::AP, n);
-    slice_of_array::dot(work, area::R, area::R, n)
+    slice_of_array::add_scaled_and_square(work, area::R, -alpha, area::AP, n)
 }
 
 // The next direction, from the residual's squares before and after the descent.

@@ -72,6 +72,27 @@ pub fn add_scaled_vector(work: &mut [f64], to: usize, alpha: f64, from: usize, n
     }
 }
 
+// As `add_scaled_vector`; answers the dot product of the new vector with itself.
+pub fn add_scaled_and_square(work: &mut [f64], to: usize, alpha: f64, from: usize, n: usize) -> f64
+    requires { ⌜ to + 4 * n ≤ length (now work) ⌝ }
+    requires { ⌜ from + 4 * n ≤ length (now work) ⌝ }
+    requires { ⌜ Apart to (4 * n) from (4 * n) ⌝ }
+    ensures { λ _. ⌜ now (work .exit) ≡ put (now (work .entry)) to (flat4 (addScaledVector (rows4 (now (work .entry)) to n) alpha (rows4 (now (work .entry)) from n))) ⌝ }
+    ensures { λ r. ⌜ r ≡ dotRows (rows4 (now (work .exit)) to n) (rows4 (now (work .exit)) to n) ⌝ }
+{
+    let mut square = 0.0;
+    let mut i = 0;
+    while i < n {
+        let a = rows::load4(work, to + 4 * i);
+        let b = rows::load4(work, from + 4 * i);
+        let v = vec4::add(a, vec4::scale(b, alpha));
+        rows::store4(work, to + 4 * i, v);
+        square = square + vec4::dot(v, v);
+        i += 1;
+    }
+    square
+}
+
 // The vector at `from` and beta times the one at `to`, which is written.
 pub fn scale_and_add_vec(work: &mut [f64], to: usize, beta: f64, from: usize, n: usize)
     requires { ⌜ to + 4 * n ≤ length (now work) ⌝ }
