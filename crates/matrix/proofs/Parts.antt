@@ -70,7 +70,7 @@ module _ {ℓ} {A : Type ℓ} where
   getD-table (suc n) f zero d h = refl
   getD-table (suc n) f (suc i) d h = getD-table n (λ k. f (suc k)) i d (le-of-suc-le-suc h)
 
-  pub length-part : (w : List A) (o n : ℕ) → o + n ≤ length w → length (part w o n) ≡ n
+  length-part : (w : List A) (o n : ℕ) → o + n ≤ length w → length (part w o n) ≡ n
   unfolding part
   length-part w o n h = simp (length-take, length-drop) (omega arith)
 

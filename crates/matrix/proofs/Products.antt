@@ -4,7 +4,7 @@ use mathlib.Core.List.{List, []}
 use Prim.Native.Nat.{ℕ, _+_, _-_, _*_, _≤_, _<_}
 use native.Mathlib.Nat.{add-assoc}
 use native.Mathlib.Omega.{arith}
-use lib.ListN.{length, getD, take, drop}
+use lib.ListN.{getD, take, drop}
 use lib.Ieee.{Float, nan}
 use Rattle.vectors.specs.Number.{plusZero}
 use Rattle.vectors.specs.Vec4.{vec4Add, vec4Scale}
@@ -15,9 +15,9 @@ use Rattle.matrix.specs.Parts.{part, table}
 use Rattle.matrix.specs.Rows.{zeroRow, zeroBlock, row4, rows4, block16, blocks16}
 use Rattle.matrix.specs.Layout.{before, after, rowLength, rowStart}
 use Rattle.matrix.specs.SparseSquare.{addProducts, rowTimes, matrixRows, multVec}
-use Rattle.matrix.proofs.Parts.{table-ext, getD-table, length-part, getD-part, part-table}
+use Rattle.matrix.proofs.Parts.{table-ext, getD-table, getD-part, part-table}
 use Rattle.matrix.proofs.RowLaws.{Stored, unstored}
-use Rattle.matrix.proofs.RowPlaces.{before-le, after-le, row-length}
+use Rattle.matrix.proofs.RowPlaces.{before-le, after-le}
 
 -- none, one or two products, by where their blocks and rows stand
 module _ (m x : List Float) (a b n : ℕ) (s : Vec4) where
@@ -113,26 +113,12 @@ blocks-part w o m n h = table-ext n _ _ (λ i b. columns (0 + 16 * i) (o + 16 * 
           add-assoc o k 12,
         )
 
--- what `row_times` lends, where st, lo and hi are the row's start and its columns before and after
-module _ (w : List Float) (n i p st lo hi : ℕ) (es : st ≡ rowStart n i) (el : lo ≡ before i) (eh : hi ≡ after n i) (fits : st + (lo + hi + 1) ≤ 154) (long : 2464 ≤ length w) (room : p + 4 * n ≤ length w) where
-  pub lent-row : 16 * rowLength n i ≤ length (take (16 * st + 16 * (lo + hi + 1) - 16 * st) (drop (16 * st) w))
-  unfolding part rowLength
-  lent-row = omega (arith, length-part w (16 * st) (16 * st + 16 * (lo + hi + 1) - 16 * st) (omega arith))
-
-  pub lent-vector : 4 * n ≤ length (take (p + 4 * n - p) (drop p w))
-  unfolding part
-  lent-vector = omega (arith, length-part w p (p + 4 * n - p) (omega arith))
-
-  pub lent-product : (old r : Vec4) → r ≡ rowTimes n i (blocks16 (take (16 * st + 16 * (lo + hi + 1) - 16 * st) (drop (16 * st) w)) 0 (rowLength n i)) (rows4 (take (p + 4 * n - p) (drop p w)) 0 n) old
-      → r ≡ rowTimes n i (blocks16 w (16 * rowStart n i) (rowLength n i)) (rows4 w p n) old
-  unfolding part
-  lent-product old r e = rw (blocks-part w (16 * st) (16 * st + 16 * (lo + hi + 1) - 16 * st) (rowLength n i) enough, rows-part w p (p + 4 * n - p) n (omega arith), es) at e
-    where
-      enough : 16 * rowLength n i ≤ 16 * st + 16 * (lo + hi + 1) - 16 * st
-      enough = omega (arith, length-row)
-        where
-          length-row : rowLength n i ≡ lo + hi + 1
-          length-row = rw (el, eh) (row-length n i)
+-- what `row_times` lends, where at and len are the row's place and its number of blocks
+pub lent-product : (w : List Float) (n i p at len : ℕ) (old r : Vec4) → at ≡ 16 * rowStart n i → len ≡ rowLength n i
+    → r ≡ rowTimes n i (blocks16 (take (at + 16 * len - at) (drop at w)) 0 (rowLength n i)) (rows4 (take (p + 4 * n - p) (drop p w)) 0 n) old
+    → r ≡ rowTimes n i (blocks16 w (16 * rowStart n i) (rowLength n i)) (rows4 w p n) old
+unfolding part
+lent-product w n i p at len old r es el e = rw (blocks-part w at (at + 16 * len - at) (rowLength n i) (omega arith), rows-part w p (p + 4 * n - p) n (omega arith), es) at e
 
 -- ---- the whole product, stored row by row
 pub rows-unstored : {w v : List Float} {o : ℕ} {f : ℕ → Vec4} {i : ℕ} → Stored w v o f i → (a m : ℕ) → ((j : ℕ) → a ≤ j → j < a + 4 * m → o ≤ j → j < o + 4 * i → ⊥) → rows4 v a m ≡ rows4 w a m

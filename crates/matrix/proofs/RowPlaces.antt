@@ -4,6 +4,7 @@ use mathlib.Core.Path.{_≡_, refl}
 use mathlib.Core.Logic.{inl, inr}
 use Prim.Native.Nat.{ℕ, zero, suc, _+_, _-_, _*_, _≤_, _<_}
 use native.Mathlib.Nat.{le-refl, le-trans, le-add-right, eq-or-lt-of-le}
+use native.Mathlib.Numerals.{add-one}
 use native.Mathlib.Omega.{arith}
 use Rattle.matrix.specs.Layout.{before, after, rowLength, rowStart}
 
@@ -44,6 +45,11 @@ last n (suc j) e h = by-size j (omega (arith, before-one (n - suc j) (omega arit
     by-size zero o k = (λ l. omega (arith, k .0 (omega arith), before-one 0 (omega arith)), λ l. absurd (omega arith))
     by-size (suc zero) o k = (λ l. absurd (omega arith), λ l. omega (arith, k .0 (omega arith), before-one 1 (omega arith)))
     by-size (suc (suc j)) o k = (λ l. absurd (omega arith), λ l. omega (arith, k .1 (omega arith), before-two (suc (suc j)) (omega arith)))
+
+-- the next row
+pub row-start-next : (n i : ℕ) → rowStart n (i + 1) ≡ rowStart n i + rowLength n i
+unfolding rowStart
+row-start-next n i = rw (add-one i)
 
 -- in numbers, as the code works it out
 pub record Placed (n i s : ℕ) : Type 0 where
@@ -95,7 +101,3 @@ after-le n i h = let b = before-le (n - suc i) in (omega arith, b .1)
 -- a row ends within the area's blocks
 pub row-fits : (n i : ℕ) → i < n → 2 ≤ n → n ≤ 32 → rowStart n i + rowLength n i ≤ 154
 row-fits n i b h m = omega (arith, row-within n i n b, all-blocks n h)
-
-pub row-length : (n i : ℕ) → rowLength n i ≡ before i + after n i + 1
-unfolding rowLength
-row-length n i = refl

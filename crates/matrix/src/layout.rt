@@ -2,7 +2,7 @@
 // and the two after, as far as they exist, and then the block of its own vertex.
 ghost use mathlib.Core.Path.{_≡_};
 ghost use Prim.Native.Nat.{_≤_, _<_};
-ghost use Rattle.matrix.specs.Layout.{before, after, rowStart, blockPlace, Near};
+ghost use Rattle.matrix.specs.Layout.{before, after, rowLength, rowStart, blockPlace, Near};
 
 // How many of the two vertices before vertex i there are.
 pub fn count_before(i: usize) -> usize
@@ -17,6 +17,14 @@ pub fn count_after(n: usize, i: usize) -> usize
     ensures { λ r. ⌜ r ≡ after n i ⌝ }
 {
     count_before(n - (i + 1))
+}
+
+// How many blocks row i has.
+pub fn row_length(n: usize, i: usize) -> usize
+    requires { ⌜ i < n ⌝ }
+    ensures { λ r. ⌜ r ≡ rowLength n i ⌝ }
+{
+    count_before(i) + count_after(n, i) + 1
 }
 
 // How many blocks stand before row i: up to five for each row above it, less those that the first

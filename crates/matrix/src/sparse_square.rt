@@ -77,20 +77,20 @@ fn row_product(row: &[f64], x: &[f64], n: usize, i: usize, old: Vec4) -> Vec4
 }
 
 // Row i of the matrix that stands at the beginning of the area, times the vector at p, from the old
-// product at ap.
-fn row_times(work: &[f64], n: usize, i: usize, p: usize, ap: usize) -> Vec4
+// product at ap. The row begins at `at`.
+fn row_times(work: &[f64], n: usize, i: usize, at: usize, p: usize, ap: usize) -> Vec4
     requires { ⌜ i < n ⌝ }
+    requires { ⌜ at ≡ 16 * rowStart n i ⌝ }
     requires { ⌜ (2 ≤ n) × (n ≤ 32) ⌝ }
     requires { ⌜ matrixNumbers ≤ length (now work) ⌝ }
     requires { ⌜ p + 4 * n ≤ length (now work) ⌝ }
     requires { ⌜ ap + 4 * n ≤ length (now work) ⌝ }
     ensures { λ r. ⌜ r ≡ rowTimes n i (blocks16 (now (work .entry)) (16 * rowStart n i) (rowLength n i)) (rows4 (now (work .entry)) p n) (row4 (now (work .entry)) (ap + 4 * i)) ⌝ }
 {
-    let s = 16 * layout::row_start(n, i);
-    let e = s + 16 * (layout::count_before(i) + layout::count_after(n, i) + 1);
+    let e = at + 16 * layout::row_length(n, i);
     let pe = p + 4 * n;
     let old = rows::load4(work, ap + 4 * i);
-    row_product(&work[s..e], &work[p..pe], n, i, old)
+    row_product(&work[at..e], &work[p..pe], n, i, old)
 }
 
 // The matrix times the vector at p, stored at ap.
@@ -102,10 +102,12 @@ pub fn mult_vec(work: &mut [f64], n: usize, p: usize, ap: usize)
     requires { ⌜ Apart ap (4 * n) p (4 * n) ⌝ }
     ensures { λ _. ⌜ now (work .exit) ≡ put (now (work .entry)) ap (flat4 (multVec n (matrixRows (now (work .entry)) n) (rows4 (now (work .entry)) p n) (rows4 (now (work .entry)) ap n))) ⌝ }
 {
+    let mut at = 0;
     let mut i = 0;
     while i < n {
-        let y = row_times(work, n, i, p, ap);
+        let y = row_times(work, n, i, at, p, ap);
         rows::store4(work, ap + 4 * i, y);
+        at += 16 * layout::row_length(n, i);
         i += 1;
     }
 }

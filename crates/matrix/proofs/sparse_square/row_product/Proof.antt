@@ -22,8 +22,7 @@ unfolding rowLength
 sub-add-before c = let s = c .before .before .before .before .before in omega (arith, s .pre .0, s .pre .1 .0, s .pre .1 .1 .0, s .pre .1 .1 .1, before-le (s .args .i), after-le (s .args .n) (s .args .i) (s .pre .0), c .before .before .count-before .ensures, c .before .count-after .ensures)
 
 mul-add-before : tie.Need-mul-add-before
-unfolding rowLength
-mul-add-before c = let s = c .before .before .before .before .before in omega (arith, s .pre .0, s .pre .1 .0, s .pre .1 .1 .0, s .pre .1 .1 .1, before-le (s .args .i), after-le (s .args .n) (s .args .i) (s .pre .0), c .before .before .count-before .ensures, c .before .count-after .ensures)
+mul-add-before c = search needs
 
 add-before-requires : tie.Need-add-before-requires
 unfolding rowLength
@@ -34,12 +33,10 @@ unfolding rowLength
 mul-add-after c = let s = c .before .before .before .before .before .before in omega (arith, s .pre .0, s .pre .1 .0, s .pre .1 .1 .0, s .pre .1 .1 .1, before-le (s .args .i), after-le (s .args .n) (s .args .i) (s .pre .0), c .before .before .before .count-before .ensures, c .before .before .count-after .ensures)
 
 add-add-after : tie.Need-add-add-after
-unfolding rowLength
-add-add-after c = let s = c .before .before .before .before .before .before in omega (arith, s .pre .0, s .pre .1 .0, s .pre .1 .1 .0, s .pre .1 .1 .1, before-le (s .args .i), after-le (s .args .n) (s .args .i) (s .pre .0), c .before .before .before .count-before .ensures, c .before .before .count-after .ensures)
+add-add-after c = search needs
 
 mul-add-after-2 : tie.Need-mul-add-after-2
-unfolding rowLength
-mul-add-after-2 c = let s = c .before .before .before .before .before .before in omega (arith, s .pre .0, s .pre .1 .0, s .pre .1 .1 .0, s .pre .1 .1 .1, before-le (s .args .i), after-le (s .args .n) (s .args .i) (s .pre .0), c .before .before .before .count-before .ensures, c .before .before .count-after .ensures)
+mul-add-after-2 c = search needs
 
 add-after-requires : tie.Need-add-after-requires
 unfolding rowLength
@@ -54,8 +51,7 @@ unfolding rowLength
 mul-add-product c = let s = c .before .before .before .before .before .before .before in omega (arith, s .pre .0, s .pre .1 .0, s .pre .1 .1 .0, s .pre .1 .1 .1, before-le (s .args .i), after-le (s .args .n) (s .args .i) (s .pre .0), c .before .before .before .before .count-before .ensures, c .before .before .before .count-after .ensures)
 
 mul-add-product-2 : tie.Need-mul-add-product-2
-unfolding rowLength
-mul-add-product-2 c = let s = c .before .before .before .before .before .before .before in omega (arith, s .pre .0, s .pre .1 .0, s .pre .1 .1 .0, s .pre .1 .1 .1, before-le (s .args .i), after-le (s .args .n) (s .args .i) (s .pre .0), c .before .before .before .before .count-before .ensures, c .before .before .before .count-after .ensures)
+mul-add-product-2 c = search needs
 
 add-product-requires : tie.Need-add-product-requires
 unfolding rowLength
