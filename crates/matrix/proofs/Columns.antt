@@ -6,7 +6,7 @@ use native.Mathlib.Omega.{arith}
 use borrow.Author.Tests.{lt-ltb, le-ltb}
 use Rattle.matrix.specs.Layout.{before, after, rowLength, rowStart, columnAt, columnPlace, blockPlace, Near}
 use Rattle.matrix.proofs.Cases.{by-order}
-use Rattle.matrix.proofs.RowPlaces.{before-one, before-two, before-le, after-le, row-length, row-within, all-blocks}
+use Rattle.matrix.proofs.RowPlaces.{before-one, before-two, before-le, after-le, row-within, all-blocks}
 
 -- ---- a column by its place, and a place by its column
 module _ (n i c : ℕ) where
@@ -61,7 +61,8 @@ module _ {n i j : ℕ} (near : Near n i j) where
 
 module _ (n i c : ℕ) (h : i < n) (b : c < rowLength n i) where
   inside : c < before i + after n i + 1
-  inside = omega (arith, row-length n i)
+  unfolding rowLength
+  inside = b
 
   pub place-of-column : columnPlace n i (columnAt n i c) ≡ c
   place-of-column =
