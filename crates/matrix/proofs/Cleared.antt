@@ -13,16 +13,12 @@ use Rattle.matrix.specs.Layout.{blockPlace, Near}
 use Rattle.matrix.specs.Area.{placeR, workNumbers, afterVectors}
 use Rattle.matrix.specs.System.{systemAt}
 use Rattle.matrix.specs.HairSystem.{sumGradients, sumBlocks, assembled}
-use Rattle.matrix.proofs.Parts.{length-table, getD-table}
-use Rattle.matrix.proofs.RowLaws.{unstored}
+use Rattle.matrix.proofs.Parts.{getD-table}
+use Rattle.matrix.proofs.RowLaws.{length-zeros, unstored}
 use Rattle.matrix.proofs.Products.{row-at}
 use Rattle.matrix.proofs.RowsPut.{RowsPut, rows-put, after-kept}
 use Rattle.matrix.proofs.Columns.{place-in-use}
 use Rattle.matrix.proofs.BlockLaws.{Holds, blockAt, holds-system}
-
-length-zeros : (n : ℕ) → length (zeroRows n) ≡ n
-unfolding zeroRows
-length-zeros n = length-table n _
 
 zero-at : {w v : List Float} {o n : ℕ} → RowsPut w v o n (zeroRows n) → (i k : ℕ) → i < n → k ≡ o + 4 * i → row4 v k ≡ zeroRow
 unfolding zeroRows

@@ -16,7 +16,7 @@ use Rattle.matrix.specs.SliceOfArray.{zeroRows, dotRows, addScaledVector
 use Rattle.matrix.specs.SparseSquare.{matrixRows, multVec}
 use Rattle.matrix.specs.ConjugateGradient.{Kept, solvingAt, productOf, alphaOf, residualOf, descended, redirected, started}
 use Rattle.matrix.proofs.Parts.{length-table}
-use Rattle.matrix.proofs.RowLaws.{zip-tables}
+use Rattle.matrix.proofs.RowLaws.{length-zeros, zip-tables}
 use Rattle.matrix.proofs.Products.{rows-unstored}
 use Rattle.matrix.proofs.RowsPut.{RowsPut, rows-put, kept, kept-on}
 
@@ -85,10 +85,6 @@ module _ (n : ℕ) (rho before : Float) (w w₁ : List Float) (h : (2 ≤ n) × 
   redirects = (redirects-vectors, kept (d₁ .stored) h (omega arith) (omega arith))
 
 -- ---- the state before the first iteration
-length-zeros : (n : ℕ) → length (zeroRows n) ≡ n
-unfolding zeroRows
-length-zeros n = length-table n _
-
 length-rows : (n : ℕ) (w : List Float) (a : ℕ) → length (rows4 w a n) ≡ n
 unfolding rows4
 length-rows n w a = length-table n _

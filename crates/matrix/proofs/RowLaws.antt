@@ -11,7 +11,7 @@ use Rattle.vectors.specs.Vec4.{vec4Dot}
 use Rattle.vectors.specs.declared.vec4.Vec4.{Vec4}
 use Rattle.matrix.specs.Parts.{put, table}
 use Rattle.matrix.specs.Rows.{row4, numbers4, flat4}
-use Rattle.matrix.specs.SliceOfArray.{dotFrom}
+use Rattle.matrix.specs.SliceOfArray.{zeroRows, dotFrom}
 use Rattle.matrix.proofs.Parts.{length-table, table-snoc, length-put, getD-outside, put-append, put-none}
 
 -- ---- rows as numbers
@@ -27,6 +27,10 @@ length-flat4 (v ∷ vs) = omega (arith, length-flat4 vs)
 
 pub length-rows : (n : ℕ) (f : ℕ → Vec4) → length (flat4 (table n f)) ≡ 4 * n
 length-rows n f = length-flat4 (table n f) ∙ ap (λ (k : ℕ). 4 * k) (length-table n f)
+
+pub length-zeros : (n : ℕ) → length (zeroRows n) ≡ n
+unfolding zeroRows
+length-zeros n = length-table n _
 
 -- four rows stored one behind the other
 pub put-rows : (w : List Float) {w₁ w₂ w₃ w₄ : List Float} (o : ℕ) (a b c d : Vec4) → w₁ ≡ put w o (numbers4 a) → w₂ ≡ put w₁ (o + 4) (numbers4 b) → w₃ ≡ put w₂ (o + 8) (numbers4 c) → w₄ ≡ put w₃ (o + 12) (numbers4 d)

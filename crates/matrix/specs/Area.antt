@@ -1,4 +1,4 @@
--- The map of the work area: document 01, "The areas", work. Where each part begins; a vector has room for 32 rows of four, a staged part for 96 numbers.
+-- The map of the work area, of which document 01 ("The areas") gives the length. Where each part begins: the blocks of the matrix first, then vectors with room for 32 rows of four, then staged parts of 96 numbers.
 use mathlib.Core.Path.{_≡_}
 use mathlib.Core.List.{List}
 use Prim.Native.Nat.{ℕ, _+_, _-_, _*_}

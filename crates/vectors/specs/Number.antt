@@ -26,6 +26,7 @@ plusZero = ofBits binary64 0
 abbrev pub plusOne : Float
 plusOne = ofBits binary64 0x3ff0_0000_0000_0000
 
+-- which numbers these bits are, computed
 pub plusZero-is : plusZero ≡ fin false 0 (pos 0)
 unfolding ofBits
 plusZero-is = refl
