@@ -39,7 +39,7 @@ module _ (n i j : ℕ) where
 pub reaches-back : (i j : ℕ) → j < i → i ≤ j + 2 → i ≤ before i + j
 reaches-back i j h k = by-order i 2 (λ b. omega (arith, before-one i b)) (λ b. omega (arith, before-two i b))
 
-reaches-on : (n i j : ℕ) → i < j → j < n → j ≤ i + 2 → j ≤ i + after n i
+pub reaches-on : (n i j : ℕ) → i < j → j < n → j ≤ i + 2 → j ≤ i + after n i
 unfolding after
 reaches-on n i j h b k = by-order (n - suc i) 2 (λ d. omega (arith, before-one (n - suc i) d)) (λ d. omega (arith, before-two (n - suc i) d))
 

@@ -12,6 +12,7 @@ pub mod SystemLaws
 pub mod Cleared
 pub mod Diagonals
 pub mod Assembly
+pub mod Fixing
 pub mod Shapes
 pub mod Descent
 pub mod Iteration

@@ -8,6 +8,7 @@ pub mod Blocks
 pub mod Pins
 pub mod Area
 pub mod System
+pub mod Fixed
 pub mod HairSystem
 pub mod Loads
 pub mod ConjugateGradient
