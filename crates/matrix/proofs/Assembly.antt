@@ -1,5 +1,5 @@
 -- The steps of the assembly put together: each reads the staged shape, which is that of the beginning, and adds its elements to the system of those before.
-use mathlib.Core.Path.{_≡_, sym, ap, _∙_}
+use mathlib.Core.Path.{_≡_, ap, _∙_}
 use mathlib.Core.List.{List, []}
 use Prim.Native.Nat.{ℕ}
 use native.Mathlib.Omega.{arith}
@@ -8,7 +8,7 @@ use Rattle.vectors.specs.Number.{plusZero}
 use Rattle.vectors.specs.declared.vec3.Vec3.{Vec3}
 use Rattle.matrix.specs.Rows.{rows3}
 use Rattle.matrix.specs.Area.{placePositions, afterVectors}
-use Rattle.matrix.specs.System.{System, systemAt}
+use Rattle.matrix.specs.System.{systemAt}
 use Rattle.matrix.specs.HairSystem.{Shape, stagedShape, stretches, bends, plusElements, sumEnergies, assembled, withDiagonal, hairElements, hairEnergy, hairSystem}
 use Rattle.matrix.proofs.Shapes.{rows3-kept, shape-kept}
 use Rattle.matrix.proofs.SystemLaws.{assembled-join, energies-join}

@@ -9,20 +9,19 @@ use lib.ListN.{length, getD}
 use lib.Dec.{eqb}
 use lib.Ieee.{Float}
 use borrow.Author.Tests.{eq-eqb, ne-eqb}
-use Rattle.vectors.specs.Mat4.{mat4}
 use Rattle.vectors.specs.declared.vec4.Vec4.{Vec4}
 use Rattle.vectors.specs.declared.mat4.Mat4.{Mat4}
 use Rattle.matrix.specs.Parts.{put, table}
 use Rattle.matrix.specs.Rows.{zeroRow, zeroBlock, row4, rows4, block16, blocks16, numbers4, flat4, numbers16}
-use Rattle.matrix.specs.Layout.{rowLength, rowStart, columnAt, columnPlace, blockPlace, Near}
+use Rattle.matrix.specs.Layout.{rowLength, columnAt, columnPlace, blockPlace, Near}
 use Rattle.matrix.specs.SparseSquare.{matrixRows}
 use Rattle.matrix.specs.Blocks.{matrixOf, blockIn}
 use Rattle.matrix.specs.Area.{placeR, workNumbers, afterVectors}
-use Rattle.matrix.specs.System.{System, systemAt}
+use Rattle.matrix.specs.System.{systemAt}
 use Rattle.matrix.specs.HairSystem.{samePair}
 use Rattle.matrix.proofs.Parts.{table-ext, getD-table}
-use Rattle.matrix.proofs.Products.{row-at, rows-unstored, block-unstored}
-use Rattle.matrix.proofs.RowLaws.{Stored, unstored}
+use Rattle.matrix.proofs.Products.{row-at, block-unstored}
+use Rattle.matrix.proofs.RowLaws.{unstored}
 use Rattle.matrix.proofs.RowsPut.{RowsPut, rows-put, after-kept}
 use Rattle.matrix.proofs.Cases.{by-equality}
 use Rattle.matrix.proofs.Columns.{place-of-column, column-of-place, column-near, place-within, place-fits, place-injective}
@@ -58,13 +57,6 @@ pub record Holds (n : ℕ) (w : List Float) (g : ℕ → Vec4) (f : ℕ → ℕ 
 pub holds-system : {n : ℕ} {w : List Float} {g : ℕ → Vec4} {f : ℕ → ℕ → Mat4} → Holds n w g f → systemAt n w ≡ record { gradient = table n g; rows = matrixOf n f }
 unfolding systemAt rows4
 holds-system {n} {w} {g} {f} h = rw (matrix-at n w, table-ext n (λ i. row4 w (placeR + 4 * i)) g (h .gradient), matrix-ext n (blockAt n w) f (h .block))
-
-pub system-holds : {n : ℕ} {w : List Float} (s : System) → systemAt n w ≡ s → Holds n w (λ i. getD (s .gradient) i zeroRow) (blockIn n (s .rows))
-unfolding systemAt
-system-holds {n} {w} s e = record {
-  gradient = λ i h. sym (row-at zeroRow w placeR n i (placeR + 4 * i) h refl) ∙ ap (λ (x : System). getD (x .gradient) i zeroRow) e;
-  block = λ i j near. sym (block-in n (blockAt n w) near) ∙ ap (λ (l : List (List Mat4)). blockIn n l i j) (sym (matrix-at n w) ∙ ap (λ (x : System). x .rows) e);
-}
 
 pub holds-ext : {n : ℕ} {w : List Float} {g : ℕ → Vec4} {f : ℕ → ℕ → Mat4} (g₁ : ℕ → Vec4) (f₁ : ℕ → ℕ → Mat4) → Holds n w g f → ((i : ℕ) → i < n → g i ≡ g₁ i) → ((i j : ℕ) → Near n i j → f i j ≡ f₁ i j) → Holds n w g₁ f₁
 holds-ext g₁ f₁ h a b = record { gradient = λ i l. h .gradient i l ∙ a i l; block = λ i j near. h .block i j near ∙ b i j near }

@@ -6,8 +6,8 @@ use native.Mathlib.Omega.{arith}
 use lib.ListN.{length, getD}
 use lib.Ieee.{Float}
 use Rattle.vectors.specs.declared.vec4.Vec4.{Vec4}
-use Rattle.matrix.specs.Parts.{put, table}
-use Rattle.matrix.specs.Rows.{zeroRow, zeroBlock, row4, rows4, block16, flat4}
+use Rattle.matrix.specs.Parts.{put}
+use Rattle.matrix.specs.Rows.{zeroRow, zeroBlock, row4, block16, flat4}
 use Rattle.matrix.specs.SliceOfArray.{zeroRows}
 use Rattle.matrix.specs.Layout.{blockPlace, Near}
 use Rattle.matrix.specs.Area.{placeR, workNumbers, afterVectors}
@@ -18,7 +18,7 @@ use Rattle.matrix.proofs.RowLaws.{length-zeros, unstored}
 use Rattle.matrix.proofs.Products.{row-at}
 use Rattle.matrix.proofs.RowsPut.{RowsPut, rows-put, after-kept}
 use Rattle.matrix.proofs.Columns.{place-in-use}
-use Rattle.matrix.proofs.BlockLaws.{Holds, blockAt, holds-system}
+use Rattle.matrix.proofs.BlockLaws.{blockAt, holds-system}
 
 zero-at : {w v : List Float} {o n : ℕ} → RowsPut w v o n (zeroRows n) → (i k : ℕ) → i < n → k ≡ o + 4 * i → row4 v k ≡ zeroRow
 unfolding zeroRows

@@ -2,24 +2,23 @@
 use mathlib.Core.Path.{_≡_, refl, sym, subst, _∙_}
 use mathlib.Core.Bool.{Bool, true, false, cond, _&&_}
 use mathlib.Core.List.{List}
-use Prim.Native.Nat.{ℕ, zero, _+_, _*_, _≤_, _<_}
+use Prim.Native.Nat.{ℕ, _+_, _*_, _≤_, _<_}
 use native.Mathlib.Omega.{arith}
 use lib.ListN.{length}
 use lib.Dec.{T, eqb, ltb}
 use lib.Ieee.{Float}
 use borrow.Author.Tests.{eq-eqb, lt-ltb, le-ltb, eqb-true}
-use Rattle.vectors.specs.declared.vec4.Vec4.{Vec4}
 use Rattle.vectors.specs.declared.mat4.Mat4.{Mat4}
-use Rattle.matrix.specs.Parts.{put, table}
+use Rattle.matrix.specs.Parts.{put}
 use Rattle.matrix.specs.Rows.{row4, rows4, numbers16}
 use Rattle.matrix.specs.Layout.{blockPlace, Near}
 use Rattle.matrix.specs.SparseSquare.{matrixRows}
-use Rattle.matrix.specs.Blocks.{matrixOf, blockIn}
+use Rattle.matrix.specs.Blocks.{blockIn}
 use Rattle.matrix.specs.Area.{placeR, workNumbers, afterVectors}
 use Rattle.matrix.specs.System.{systemAt, changedIf}
 use Rattle.matrix.specs.HairSystem.{samePair, diagonalPlus, withDiagonal}
 use Rattle.matrix.proofs.Cases.{by-test, by-order}
-use Rattle.matrix.proofs.BlockLaws.{matrix-ext, block-in, blockAt, matrix-at, Holds, holds-system, holds-ext, holds-block, block-after}
+use Rattle.matrix.proofs.BlockLaws.{block-in, blockAt, matrix-at, Holds, holds-system, holds-ext, holds-block, block-after}
 use Rattle.matrix.proofs.SystemLaws.{as-held, pair-true}
 
 -- the blocks of the area w, with c on the first k diagonal ones

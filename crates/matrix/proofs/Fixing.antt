@@ -10,15 +10,17 @@ use lib.Ieee.{Float}
 use borrow.Author.Tests.{eq-eqb, ne-eqb, lt-ltb, le-ltb, ltb-true, ltb-false}
 use Rattle.vectors.specs.declared.mat4.Mat4.{Mat4}
 use Rattle.matrix.specs.Parts.{put}
-use Rattle.matrix.specs.Rows.{rows4, numbers16}
+use Rattle.matrix.specs.Rows.{rows4, flat4, numbers16}
 use Rattle.matrix.specs.Layout.{before, after, blockPlace, Near}
 use Rattle.matrix.specs.SparseSquare.{matrixRows}
 use Rattle.matrix.specs.Blocks.{matrixOf, blockIn}
 use Rattle.matrix.specs.Area.{placeR, workNumbers, afterVectors}
 use Rattle.matrix.specs.System.{System, systemAt, changedIf}
 use Rattle.matrix.specs.HairSystem.{samePair}
-use Rattle.matrix.specs.Pins.{blockFixed, pinnedColumns, setFixedBc}
-use Rattle.matrix.specs.Fixed.{fixedWhere, withFixed}
+use Rattle.matrix.specs.Pins.{blockFixed, pinnedColumns, setFixDofToRhsVector, setFixedBc}
+use Rattle.matrix.specs.Fixed.{fixedWhere, withFixed, withPins}
+use Rattle.matrix.proofs.Parts.{length-table}
+use Rattle.matrix.proofs.RowsPut.{RowsPut, rows-put, matrix-kept, after-kept}
 use Rattle.matrix.proofs.RowPlaces.{before-le, after-le}
 use Rattle.matrix.proofs.Cases.{by-test, by-order, by-equality}
 use Rattle.matrix.proofs.Columns.{reaches-back, reaches-on}
@@ -119,3 +121,19 @@ column-adds k e i j =
     by-equality k i
     (λ a. rw (eq-eqb k i a) (number-adds e j))
     (λ a. rw (ne-eqb k i a) (record { old = λ x. absurd (subst T (sym x) tt); new = λ x. refl }))
+
+-- ---- the right-hand side
+module _ (n : ℕ) (pins : List ℕ) (w v : List Float) (h : (2 ≤ n) × (n ≤ 32)) (long : length w ≡ workNumbers) (e : v ≡ put w placeR (flat4 (setFixDofToRhsVector n pins (rows4 w placeR n)))) where
+  long-fixed : length (setFixDofToRhsVector n pins (rows4 w placeR n)) ≡ n
+  unfolding setFixDofToRhsVector
+  long-fixed = length-table n _
+
+  there : RowsPut w v placeR n (setFixDofToRhsVector n pins (rows4 w placeR n))
+  there = rows-put w v placeR n _ e long-fixed (omega arith)
+
+  pub right-fixed : withFixed n pins (systemAt n v) ≡ withPins n pins (systemAt n w)
+  unfolding withFixed withPins systemAt
+  right-fixed = rw (there .there, matrix-kept (there .stored) n (omega arith) (h .0) (h .1))
+
+  pub right-fixed-after : afterVectors v ≡ afterVectors w
+  right-fixed-after = after-kept (there .stored) (omega arith)

@@ -20,3 +20,4 @@ pub mod Iterations
 pub mod Going
 pub mod AreaMap
 mod Samples
+pub mod Runs

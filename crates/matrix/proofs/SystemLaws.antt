@@ -1,18 +1,17 @@
 -- One addition to the system in the area, and many: adding an element's parts one after the other is adding the element, and the elements added so far make the system of so many elements.
 -- A block of the result is known where its pair is, so each law is one of blocks.
 use mathlib.Core.Path.{_≡_, refl, sym, ap, subst, _∙_}
-use mathlib.Core.Bool.{Bool, true, false, cond, _&&_}
+use mathlib.Core.Bool.{true, cond}
 use mathlib.Core.List.{List, [], _∷_, _++_}
-use Prim.Native.Nat.{ℕ, zero, suc, _+_, _*_, _≤_, _<_}
+use Prim.Native.Nat.{ℕ, _+_, _*_, _≤_, _<_}
 use native.Mathlib.Numerals.{add-one}
-use native.Mathlib.Omega.{arith}
 use lib.ListN.{length, getD}
 use lib.Dec.{T, eqb}
 use lib.Ieee.{Float}
 use borrow.Author.Tests.{eqb-true}
 use Rattle.vectors.specs.Number.{_⊕_, plusZero}
-use Rattle.vectors.specs.Vec4.{vec4Add, vec4FromVec3}
-use Rattle.vectors.specs.Mat4.{mat4Add, mat4FromMat3}
+use Rattle.vectors.specs.Vec4.{vec4FromVec3}
+use Rattle.vectors.specs.Mat4.{mat4FromMat3}
 use Rattle.vectors.specs.declared.vec4.Vec4.{Vec4}
 use Rattle.vectors.specs.declared.mat4.Mat4.{Mat4}
 use Rattle.matrix.specs.Parts.{put, table}
@@ -25,7 +24,7 @@ use Rattle.matrix.specs.System.{System, systemAt, changedIf}
 use Rattle.elements.specs.declared.spring3.Stretch.{Stretch}
 use Rattle.elements.specs.declared.rod3_darboux.bend.BendRow.{BendRow}
 use Rattle.elements.specs.declared.rod3_darboux.bend.Bend.{Bend}
-use Rattle.matrix.specs.HairSystem.{stretchElement, bendElement, atVertex, atPair, AtVertex, AtPair, Element, samePair, rowPlusIf, blockPlusIf, plusGradient, plusBlock, addGradients, addBlocks, plusElement, plusElements, sumEnergies, sumGradients, sumBlocks, assembled}
+use Rattle.matrix.specs.HairSystem.{stretchElement, bendElement, AtVertex, AtPair, Element, samePair, rowPlusIf, blockPlusIf, plusGradient, plusBlock, addGradients, addBlocks, plusElement, plusElements, sumEnergies, sumGradients, sumBlocks, assembled}
 use Rattle.matrix.proofs.Parts.{table-ext, table-snoc, getD-table}
 use Rattle.matrix.proofs.Products.{row-at}
 use Rattle.matrix.proofs.Cases.{by-test}

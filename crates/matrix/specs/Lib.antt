@@ -13,6 +13,7 @@ pub mod HairSystem
 pub mod Loads
 pub mod ConjugateGradient
 pub mod Iterations
+pub mod Runs
 pub mod Opened
 pub mod Written
 pub mod SamplesSystem

@@ -1,6 +1,6 @@
 -- How a sample is written down: for three vertices, numbers by their bits, vertex by vertex, and a matrix's in the order of the area.
 use mathlib.Core.Bool.{Bool, _&&_}
-use mathlib.Core.List.{List, [], _∷_, _++_, map, flatMap}
+use mathlib.Core.List.{List, _∷_, _++_, map, flatMap}
 use Prim.Native.Nat.{ℕ}
 use lib.Dec.{eqb}
 use lib.Ieee.{Float}

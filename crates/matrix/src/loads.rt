@@ -14,7 +14,7 @@ ghost use Rattle.matrix.specs.Rows.{rows3};
 ghost use Rattle.matrix.specs.Area.{placePositions, workNumbers, afterVectors};
 ghost use Rattle.matrix.specs.System.{systemAt};
 ghost use Rattle.matrix.specs.HairSystem.{vec3At};
-ghost use Rattle.matrix.specs.Loads.{pickBlock, pickForce, pulled, withPull, withPick, withInertia};
+ghost use Rattle.matrix.specs.Loads.{pickBlock, pulled, withPull, withPick, withInertia};
 
 // The spring's stiffness.
 const PICK_STIFFNESS: f64 = 16.0;

@@ -1,5 +1,6 @@
 // Pins: four bytes a vertex, one for each of its three coordinates and one for its twist. Any byte
 // but 0 holds the number that it stands for.
+use crate::area;
 use crate::layout;
 use crate::rows;
 use vectors::mat4::Mat4;
@@ -15,7 +16,7 @@ ghost use Rattle.matrix.specs.Area.{workNumbers, afterVectors};
 ghost use Rattle.matrix.specs.System.{systemAt};
 ghost use Rattle.matrix.specs.HairSystem.{samePair};
 ghost use Rattle.matrix.specs.Pins.{unlessFixed, rowUnlessFixed, setFixDofToRhsVector, columnFixed, blockFixed, pinnedColumns};
-ghost use Rattle.matrix.specs.Fixed.{fixedWhere, withFixed};
+ghost use Rattle.matrix.specs.Fixed.{fixedWhere, withFixed, withPins};
 
 // x, or 0 where the byte pins.
 fn unless_fixed(pin: u8, x: f64) -> f64
@@ -159,4 +160,16 @@ pub fn set_fixed_bc(work: &mut [f64], pins: &[u8], n: usize)
         fix_row(work, pins, n, i);
         i += 1;
     }
+}
+
+// The whole system of n vertices gets its pins.
+pub fn fix_system(work: &mut [f64], pins: &[u8], n: usize)
+    requires { ⌜ (2 ≤ n) × (n ≤ 32) ⌝ }
+    requires { ⌜ 4 * n ≤ length (now pins) ⌝ }
+    requires { ⌜ length (now work) ≡ workNumbers ⌝ }
+    ensures { λ _. ⌜ systemAt n (now (work .exit)) ≡ withPins n (now (pins .entry)) (systemAt n (now (work .entry))) ⌝ }
+    ensures { λ _. ⌜ afterVectors (now (work .exit)) ≡ afterVectors (now (work .entry)) ⌝ }
+{
+    set_fix_dof_to_rhs_vector(work, area::R, pins, n);
+    set_fixed_bc(work, pins, n);
 }

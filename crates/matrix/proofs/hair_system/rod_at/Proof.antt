@@ -1,6 +1,6 @@
 -- Each vector stands where the shape says.
 use borrow.Author.Needs.{needs}
-use Prim.Native.Nat.{ℕ, _+_, _*_}
+use Prim.Native.Nat.{_+_, _*_}
 use native.Mathlib.Omega.{arith}
 use Rattle.matrix.specs.HairSystem.{rodOf}
 use Rattle.matrix.proofs.Shapes.{vec3-at}

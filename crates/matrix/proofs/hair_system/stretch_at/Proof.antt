@@ -1,6 +1,6 @@
 -- The rest length and the stretch, from the vectors where they stand.
 use borrow.Author.Needs.{needs}
-use Prim.Native.Nat.{ℕ, _+_, _*_}
+use Prim.Native.Nat.{_+_, _*_}
 use native.Mathlib.Omega.{arith}
 use Rattle.matrix.specs.Area.{placePositions}
 use Rattle.matrix.specs.HairSystem.{stretchAt}

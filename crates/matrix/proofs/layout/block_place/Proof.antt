@@ -1,9 +1,8 @@
 -- A column before the row's own, one after it, and its own, by what the calls answer.
 use borrow.Author.Needs.{needs}
-use mathlib.Core.Path.{_≡_}
 use native.Mathlib.Omega.{arith}
 use Rattle.matrix.specs.Layout.{blockPlace}
-use Rattle.matrix.proofs.Columns.{place-before, place-after, place-own, place-fits, reaches-back}
+use Rattle.matrix.proofs.Columns.{place-before, place-after, place-own, reaches-back}
 use Rattle.matrix.proofs.RowPlaces.{before-le, after-le, row-fits}
 use Rattle.matrix.proofs.layout.block_place.Statement.{statement}
 use Rattle.matrix.proofs.layout.block_place.Tie as tie

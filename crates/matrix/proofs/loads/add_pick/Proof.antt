@@ -1,6 +1,6 @@
 -- The pull, then the spring's block; the position is the staged one.
 use borrow.Author.Needs.{needs}
-use mathlib.Core.Path.{refl, sym, _∙_}
+use mathlib.Core.Path.{refl, _∙_}
 use native.Mathlib.Omega.{arith}
 use Prim.Native.Nat.{_+_, _*_}
 use Rattle.matrix.specs.Area.{placePositions}

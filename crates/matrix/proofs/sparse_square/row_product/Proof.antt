@@ -1,6 +1,5 @@
 -- The calls go through the columns before the row's own, those after it and the diagonal, as the definition does.
 use borrow.Author.Needs.{needs}
-use Prim.Native.Nat.{_-_}
 use native.Mathlib.Omega.{arith}
 use Rattle.matrix.specs.Layout.{rowLength}
 use Rattle.matrix.proofs.RowPlaces.{before-le, after-le}

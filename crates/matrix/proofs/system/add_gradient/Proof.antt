@@ -1,6 +1,5 @@
 -- The row that is stored is the old one and v.
 use borrow.Author.Needs.{needs}
-use native.Mathlib.Omega.{arith}
 use Rattle.vectors.specs.Vec4.{vec4Add}
 use Rattle.vectors.specs.declared.vec4.Vec4.{Vec4}
 use Rattle.matrix.specs.HairSystem.{plusGradient}

@@ -1,7 +1,6 @@
 -- The invariant: c is added to the first i diagonal blocks.
 use borrow.Author.Needs.{needs}
-use Prim.Native.Nat.{ℕ, _-_, _≤_}
-use mathlib.Core.Path.{_≡_}
+use Prim.Native.Nat.{_-_, _≤_}
 use native.Mathlib.Omega.{arith}
 use Rattle.matrix.proofs.Columns.{place-fits}
 use Rattle.matrix.proofs.Diagonals.{Loaded, loaded-none, loaded-more, loaded-all}
