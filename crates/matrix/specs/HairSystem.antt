@@ -1,4 +1,4 @@
--- The system of a strand: rod3_darboux.rs, `wdwddw_hair_system`, lines 742 to 832. Each element adds to the gradients of its vertices and to the blocks of their pairs, as `merge_for_array_blk` of sparse_square.rs does.
+-- The system of a strand: rod3_darboux.rs, `wdwddw_hair_system`, lines 742 to 833. Each element adds to the gradients of its vertices and to the blocks of their pairs, as `merge_for_array_blk` of sparse_square.rs does.
 use mathlib.Core.Bool.{Bool, _&&_}
 use mathlib.Core.List.{List, [], _∷_, _++_}
 use Prim.Native.Nat.{ℕ, _+_, _-_}
@@ -45,7 +45,7 @@ atVertex i v = record { vertex = i; value = v }
 abbrev pub atPair : ℕ → ℕ → Mat4 → AtPair
 atPair i j m = record { row = i; column = j; block = m }
 
--- lines 774 to 793: the stretch of the edge from vertex i, with zeros for the twist
+-- lines 776 to 792: the stretch of the edge from vertex i, with zeros for the twist
 unfoldable pub stretchElement : ℕ → Stretch → Element
 stretchElement i e =
     let same = mat4FromMat3 (e .same) plusZero in
@@ -56,7 +56,7 @@ stretchElement i e =
       blocks = atPair i i same ∷ atPair i (i + 1) other ∷ atPair (i + 1) i other ∷ atPair (i + 1) (i + 1) same ∷ [];
     }
 
--- lines 817 to 825: bend and twist at the edges from vertices i and i + 1
+-- lines 818 to 825: bend and twist at the edges from vertices i and i + 1
 unfoldable pub bendElement : ℕ → Bend → Element
 bendElement i e =
     record {
@@ -87,15 +87,15 @@ vec3At l i = getD l i zeroVec3
 unfoldable pub rodOf : Shape → ℕ → Rod
 rodOf s i = record { p0 = vec3At (s .positions) i; p1 = vec3At (s .positions) (i + 1); p2 = vec3At (s .positions) (i + 2); x0 = vec3At (s .frames) i; x1 = vec3At (s .frames) (i + 1) }
 
--- lines 763 to 773: the rest length of the edge from vertex i, and its stretch
+-- lines 765 to 775: the rest length of the edge from vertex i, and its stretch
 unfoldable pub stretchAt : List Vec3 → List Vec3 → Float → ℕ → Stretch
 stretchAt rest now k i = wdwddwSquaredLengthDifference k (vec3At now i) (vec3At now (i + 1)) (edgeLength (vec3At rest i) (vec3At rest (i + 1)) .value)
 
--- lines 795 to 816: the Darboux vector at rest, and what the difference from it makes
+-- lines 797 to 817: the Darboux vector at rest, and what the difference from it makes
 unfoldable pub bendAt : Shape → Shape → Vec3 → ℕ → Bend
 bendAt rest now k i = wdwdwdwDarbouxRodHairApproxHessian (rodOf now i) k (darbouxRod (rodOf rest i))
 
--- lines 763 and 795: an element for each edge, and for each two edges
+-- lines 763 and 794: an element for each edge, and for each two edges
 unfoldable pub stretches : ℕ → List Vec3 → List Vec3 → Float → List Element
 stretches n rest now k = table (n - 1) (λ i. stretchElement i (stretchAt rest now k i))
 
@@ -151,7 +151,7 @@ unfoldable pub sumBlocks : Mat4 → List Element → ℕ → ℕ → Mat4
 sumBlocks s [] i j = s
 sumBlocks s (e ∷ es) i j = sumBlocks (addBlocks s (e .blocks) i j) es i j
 
--- lines 757 to 760: every sum begins with +0
+-- lines 757 to 759: every sum begins with +0
 unfoldable pub assembled : ℕ → List Element → System
 assembled n es = record { gradient = table n (λ i. sumGradients zeroRow es i); rows = matrixOf n (λ i j. sumBlocks zeroBlock es i j) }
 
@@ -164,7 +164,7 @@ diagonalPlus c m =
     (vec4 (m .c2 .x) (m .c2 .y) (m .c2 .z ⊕ c) (m .c2 .w))
     (m .c3)
 
--- lines 826 to 831 with damping c, and lines 1219 to 1225 with inertia c: c on the three diagonals of every vertex
+-- lines 827 to 832 with damping c, and lines 1221 to 1225 with inertia c: c on the three diagonals of every vertex
 unfoldable pub withDiagonal : ℕ → Float → System → System
 withDiagonal n c s = record { gradient = s .gradient; rows = matrixOf n (λ i j. changedIf (eqb i j) (diagonalPlus c) (blockIn n (s .rows) i j)) }
 

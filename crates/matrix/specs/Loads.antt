@@ -15,11 +15,11 @@ use Rattle.matrix.specs.Rows.{zeroRow}
 use Rattle.matrix.specs.System.{System, changedIf}
 use Rattle.matrix.specs.HairSystem.{plusBlock, withDiagonal}
 
--- 16: rod3_darboux.rs, lines 1132 and 1133
+-- 16: rod3_darboux.rs, lines 1132 to 1134
 abbrev pub pickStiffness : Float
 pickStiffness = ofBits binary64 0x4030_0000_0000_0000
 
--- line 1134: the stiffness on three diagonals, zeros elsewhere
+-- line 1135: the stiffness on three diagonals, zeros elsewhere
 abbrev pub pickBlock : Mat4
 pickBlock =
     mat4
@@ -28,21 +28,22 @@ pickBlock =
     (vec4 plusZero plusZero pickStiffness plusZero)
     zeroRow
 
--- lines 1137 to 1141: 16 (position - goal)
+-- lines 1138 to 1142: 16 (position - goal)
 unfoldable pub pickForce : Vec3 → Vec3 → Vec3
 pickForce position goal = vec3Scale (vec3Sub position goal) pickStiffness
 
--- lines 1142 to 1144: c on the three numbers of a vertex's position
+-- lines 1143 to 1145: c on the three numbers of a vertex's position
 unfoldable pub pulled : Vec3 → Vec4 → Vec4
 pulled c g = vec4 (g .x ⊕ c .x) (g .y ⊕ c .y) (g .z ⊕ c .z) (g .w)
 
+-- of vertex v
 unfoldable pub withPull : ℕ → ℕ → Vec3 → System → System
 withPull n v c s = record { gradient = table n (λ i. changedIf (eqb v i) (pulled c) (getD (s .gradient) i zeroRow)); rows = s .rows }
 
--- lines 1128 to 1145: vertex v, at the given position, is pulled to the goal
+-- lines 1129 to 1146: vertex v, at the given position, is pulled to the goal
 unfoldable pub withPick : ℕ → ℕ → Vec3 → Vec3 → System → System
 withPick n v position goal s = plusBlock n v v pickBlock (withPull n v (pickForce position goal) s)
 
--- lines 1219 to 1225: 1 / (dt dt) on three diagonals of every vertex
+-- lines 1220 to 1225: 1 / (dt dt) on three diagonals of every vertex
 unfoldable pub withInertia : ℕ → Float → System → System
 withInertia n dt s = withDiagonal n (plusOne ⊘ (dt ⊗ dt)) s
