@@ -3,10 +3,10 @@
 use mathlib.Core.Path.{_≡_, refl, sym, ap, _∙_}
 use mathlib.Core.List.{List, [], _∷_, _++_}
 use Prim.Native.Nat.{ℕ, zero, suc, _+_, _≤_, _<_, suc-le-suc}
-use native.Mathlib.Nat.{not-suc-le-zero, le-of-suc-le-suc, add-zero, add-suc, suc-add}
+use native.Mathlib.Nat.{not-suc-le-zero, le-of-suc-le-suc}
 use native.Mathlib.Omega.{arith}
-use lib.ListN.{length, getD, set, length-set, length-take, length-drop, drop}
-use lib.Seq.{length-sets, getD-set-same, getD-set-other, getD-take, getD-drop, ext-getD}
+use lib.ListN.{length, getD, set, length-take, length-drop, drop}
+use lib.Seq.{getD-take, getD-drop, ext-getD}
 use Rattle.matrix.specs.Parts.{part, put, table}
 
 module _ {ℓ} {A : Type ℓ} where
@@ -30,38 +30,65 @@ module _ {ℓ} {A : Type ℓ} where
   -- ---- what is read after a store
   pub length-put : (w : List A) (o : ℕ) (p : List A) → length (put w o p) ≡ length w
   unfolding put
-  length-put w o p = length-sets w o p
+  length-put [] o p = refl
+  length-put (a ∷ w) (suc o) p = ap suc (length-put w o p)
+  length-put (a ∷ w) zero [] = refl
+  length-put (a ∷ w) zero (b ∷ p) = ap suc (length-put w zero p)
 
   pub getD-outside : (w : List A) (o : ℕ) (p : List A) (k : ℕ) (d : A) → (o ≤ k → k < o + length p → ⊥) → getD (put w o p) k d ≡ getD w k d
   unfolding put
-  getD-outside w o [] k d h = refl
-  getD-outside w o (a ∷ p) k d h = getD-outside (set w o a) (suc o) p k d (λ l m. h (omega arith) (omega arith)) ∙ getD-set-other w o k a d (λ e. h (omega arith) (omega arith))
+  getD-outside [] o p k d h = refl
+  getD-outside (a ∷ w) (suc o) p zero d h = refl
+  getD-outside (a ∷ w) (suc o) p (suc k) d h = getD-outside w o p k d (λ l m. h (omega arith) (omega arith))
+  getD-outside (a ∷ w) zero [] k d h = refl
+  getD-outside (a ∷ w) zero (b ∷ p) zero d h = absurd (h (omega arith) (omega arith))
+  getD-outside (a ∷ w) zero (b ∷ p) (suc k) d h = getD-outside w zero p k d (λ l m. h (omega arith) (omega arith))
+
+  -- i is the place in p, k the one in w
+  read-inside : (w : List A) (o : ℕ) (p : List A) (i k : ℕ) (d : A) → k ≡ o + i → o + length p ≤ length w → i < length p → getD (put w o p) k d ≡ getD p i d
+  unfolding put
+  read-inside [] o p i k d e h b = absurd (omega arith)
+  read-inside (a ∷ w) (suc o) p i zero d e h b = absurd (omega arith)
+  read-inside (a ∷ w) (suc o) p i (suc k) d e h b = read-inside w o p i k d (omega arith) (omega arith) b
+  read-inside (a ∷ w) zero [] i k d e h b = absurd (omega arith)
+  read-inside (a ∷ w) zero (x ∷ p) zero zero d e h b = refl
+  read-inside (a ∷ w) zero (x ∷ p) zero (suc k) d e h b = absurd (omega arith)
+  read-inside (a ∷ w) zero (x ∷ p) (suc i) zero d e h b = absurd (omega arith)
+  read-inside (a ∷ w) zero (x ∷ p) (suc i) (suc k) d e h b = read-inside w zero p i k d (omega arith) (omega arith) (omega arith)
 
   pub getD-inside : (w : List A) (o : ℕ) (p : List A) (i : ℕ) (d : A) → o + length p ≤ length w → i < length p → getD (put w o p) (o + i) d ≡ getD p i d
-  unfolding put
-  getD-inside w o [] i d h b = absurd (not-suc-le-zero b)
-  getD-inside w o (a ∷ p) zero d h b = rw add-zero (getD-outside (set w o a) (suc o) p o d (omega arith) ∙ getD-set-same w o a d (omega arith))
-  getD-inside w o (a ∷ p) (suc i) d h b =
-      ap (λ (k : ℕ). getD (put (set w o a) (suc o) p) k d) (add-suc o i ∙ sym (suc-add o i))
-      ∙ getD-inside (set w o a) (suc o) p i d (simp length-set (omega arith)) (le-of-suc-le-suc b)
+  getD-inside w o p i d h b = read-inside w o p i (o + i) d refl h b
 
   -- ---- stores one behind the other
-  pub put-append : (w : List A) (o : ℕ) (p q : List A) → put w o (p ++ q) ≡ put (put w o p) (o + length p) q
+  put-behind : (w : List A) (o : ℕ) (p q : List A) (k : ℕ) → k ≡ o + length p → put w o (p ++ q) ≡ put (put w o p) k q
   unfolding put
-  put-append w o [] q = rw add-zero
-  put-append w o (a ∷ p) q = put-append (set w o a) (suc o) p q ∙ ap (λ (k : ℕ). put (put w o (a ∷ p)) k q) (omega arith)
+  put-behind [] o p q k e = refl
+  put-behind (a ∷ w) (suc o) p q zero e = absurd (omega arith)
+  put-behind (a ∷ w) (suc o) p q (suc k) e = ap (λ (l : List A). a ∷ l) (put-behind w o p q k (omega arith))
+  put-behind (a ∷ w) zero [] q k e = let d : k ≡ 0 = omega arith in rw d
+  put-behind (a ∷ w) zero (b ∷ p) q zero e = absurd (omega arith)
+  put-behind (a ∷ w) zero (b ∷ p) q (suc k) e = ap (λ (l : List A). b ∷ l) (put-behind w zero p q k (omega arith))
+
+  pub put-append : (w : List A) (o : ℕ) (p q : List A) → put w o (p ++ q) ≡ put (put w o p) (o + length p) q
+  put-append w o p q = put-behind w o p q (o + length p) refl
 
   pub put-none : (w : List A) (o : ℕ) → put w o [] ≡ w
   unfolding put
-  put-none w o = refl
+  put-none [] o = refl
+  put-none (a ∷ w) (suc o) = ap (λ (l : List A). a ∷ l) (put-none w o)
+  put-none (a ∷ w) zero = refl
+
+  put-one : (w : List A) (o : ℕ) (a : A) → set w o a ≡ put w o (a ∷ [])
+  unfolding put
+  put-one [] o a = refl
+  put-one (x ∷ w) (suc o) a = ap (λ (l : List A). x ∷ l) (put-one w o a)
+  put-one (x ∷ w) zero a = ap (λ (l : List A). a ∷ l) (sym (put-none w zero))
 
   pub put-four : (w : List A) (o : ℕ) (a b c d : A) → set (set (set (set w o a) (o + 1) b) (o + 2) c) (o + 3) d ≡ put w o (a ∷ b ∷ c ∷ d ∷ [])
-  unfolding put
   put-four w o a b c d =
-      let e₁ : o + 1 ≡ suc o = omega arith in
-      let e₂ : o + 2 ≡ suc (suc o) = omega arith in
-      let e₃ : o + 3 ≡ suc (suc (suc o)) = omega arith in
-      rw (e₁, e₂, e₃)
+      rw (put-one w o a, put-one (put w o (a ∷ [])) (o + 1) b)
+      (rw (← put-append w o (a ∷ []) (b ∷ []), put-one (put w o (a ∷ b ∷ [])) (o + 2) c)
+      (rw (← put-append w o (a ∷ b ∷ []) (c ∷ []), put-one (put w o (a ∷ b ∷ c ∷ [])) (o + 3) d) (sym (put-append w o (a ∷ b ∷ c ∷ []) (d ∷ [])))))
 
   -- ---- parts
   pub getD-table : (n : ℕ) (f : ℕ → A) (i : ℕ) (d : A) → i < n → getD (table n f) i d ≡ f i

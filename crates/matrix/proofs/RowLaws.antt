@@ -35,12 +35,9 @@ length-zeros n = length-table n _
 -- four rows stored one behind the other
 pub put-rows : (w : List Float) {w₁ w₂ w₃ w₄ : List Float} (o : ℕ) (a b c d : Vec4) → w₁ ≡ put w o (numbers4 a) → w₂ ≡ put w₁ (o + 4) (numbers4 b) → w₃ ≡ put w₂ (o + 8) (numbers4 c) → w₄ ≡ put w₃ (o + 12) (numbers4 d)
     → w₄ ≡ put w o (flat4 (a ∷ b ∷ c ∷ d ∷ []))
-unfolding flat4 numbers4 put
+unfolding flat4 numbers4
 put-rows w o a b c d e₁ e₂ e₃ e₄ =
-    let f₁ : o + 4 ≡ suc (suc (suc (suc o))) = omega arith in
-    let f₂ : o + 8 ≡ suc (suc (suc (suc (o + 4)))) = omega arith in
-    let f₃ : o + 12 ≡ suc (suc (suc (suc (o + 8)))) = omega arith in
-    rw (e₄, e₃, e₂, e₁, f₃, f₂, f₁)
+    rw (e₄, e₃, e₂, e₁, ← put-append w o (numbers4 a) (numbers4 b), ← put-append w o (numbers4 a ++ numbers4 b) (numbers4 c), ← put-append w o (numbers4 a ++ numbers4 b ++ numbers4 c) (numbers4 d))
 
 -- ---- a loop that stores rows: v is w after i turns
 pub record Stored (w v : List Float) (o : ℕ) (f : ℕ → Vec4) (i : ℕ) : Type 0 where
