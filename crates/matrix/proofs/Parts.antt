@@ -7,7 +7,7 @@ use native.Mathlib.Nat.{not-suc-le-zero, le-of-suc-le-suc}
 use native.Mathlib.Omega.{arith}
 use lib.ListN.{length, getD, set, length-take, length-drop, drop}
 use lib.Seq.{getD-take, getD-drop, ext-getD}
-use Rattle.matrix.specs.Parts.{part, put, table}
+use Rattle.matrix.specs.Parts.{Apart, part, put, table}
 
 module _ {ℓ} {A : Type ℓ} where
   -- ---- tables
@@ -97,7 +97,7 @@ module _ {ℓ} {A : Type ℓ} where
   getD-table (suc n) f zero d h = refl
   getD-table (suc n) f (suc i) d h = getD-table n (λ k. f (suc k)) i d (le-of-suc-le-suc h)
 
-  length-part : (w : List A) (o n : ℕ) → o + n ≤ length w → length (part w o n) ≡ n
+  pub length-part : (w : List A) (o n : ℕ) → o + n ≤ length w → length (part w o n) ≡ n
   unfolding part
   length-part w o n h = simp (length-take, length-drop) (omega arith)
 
@@ -110,3 +110,15 @@ module _ {ℓ} {A : Type ℓ} where
       let long : length (part (table n f) o m) ≡ m = length-part (table n f) o m (omega (arith, length-table n f)) in
       ext-getD d (part (table n f) o m) (table m (λ i. f (o + i))) (long ∙ sym (length-table m _))
       (λ i b. let c : i < m = omega arith in getD-part (table n f) o m i d c ∙ getD-table n f (o + i) d (omega arith) ∙ sym (getD-table m (λ k. f (o + k)) i d c))
+
+  -- ---- parts after a store: the one that was stored, and one apart from it
+  pub part-put-same : (d : A) (w : List A) (o n : ℕ) (p : List A) → length p ≡ n → o + n ≤ length w → part (put w o p) o n ≡ p
+  part-put-same d w o n p e h =
+      let l = length-part (put w o p) o n (omega (arith, length-put w o p)) in
+      ext-getD d (part (put w o p) o n) p (l ∙ sym e) (λ i b. getD-part (put w o p) o n i d (omega arith) ∙ getD-inside w o p i d (omega arith) (omega arith))
+
+  pub part-put-apart : (d : A) (w : List A) (o : ℕ) (p : List A) (k n : ℕ) → Apart o (length p) k n → k + n ≤ length w → part (put w o p) k n ≡ part w k n
+  part-put-apart d w o p k n a h =
+      let l = length-part (put w o p) k n (omega (arith, length-put w o p)) in
+      ext-getD d (part (put w o p) k n) (part w k n) (l ∙ sym (length-part w k n h))
+      (λ i b. let c : i < n = omega arith in getD-part (put w o p) k n i d c ∙ getD-outside w o p (k + i) d (λ x y. a (k + i) x y (omega arith) (omega arith)) ∙ sym (getD-part w k n i d c))

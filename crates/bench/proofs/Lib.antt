@@ -1,0 +1,8 @@
+-- The laws behind the crate's theorem.
+pub mod SeatParts
+pub mod Requests
+pub mod Local
+pub mod Lists
+pub mod Isolated
+pub mod Table
+pub mod Filled

@@ -1,0 +1,61 @@
+-- One seat's data, and the whole bench: document 01, "The areas" and "Bench".
+use mathlib.Core.List.{List}
+use Prim.Native.Nat.{ℕ, _*_}
+use lib.ListN.{getD, set, replicate}
+use lib.Ieee.{Float, nan}
+use Rattle.vectors.specs.Number.{plusZero}
+use Rattle.matrix.specs.Parts.{part, put}
+use Rattle.bench.specs.declared.seats.Settings.{Settings}
+use Rattle.bench.specs.declared.seats.Record.{Record}
+use Rattle.bench.specs.Areas.{seats, restNumbers, drapeNumbers, pinBytes, restPart, drapePart, pinPart}
+
+-- "A seat's strand is its count and settings in the record and its whole parts of rest, drape, working copy included, and pins."
+pub record Strand : Type 0 where
+  -- the number of its vertices, 0 where the seat is empty
+  pub count : ℕ
+  pub settings : Settings
+  -- positions, then frames, as they are at rest
+  pub rest : List Float
+  -- positions, frames, velocities and working copy
+  pub drape : List Float
+  -- four bytes a vertex: its three position components, then its twist
+  pub pins : List ℕ
+
+-- The record and the three areas that live on between calls.
+pub record Bench : Type 0 where
+  pub seats : Record
+  pub rest : List Float
+  pub drape : List Float
+  pub pins : List ℕ
+
+abbrev pub settingsOf : Float → Settings
+settingsOf x = record { «stiff_length» = x; «stiff_bendtwist0» = x; «stiff_bendtwist1» = x; «stiff_bendtwist2» = x; «conv_ratio» = x }
+
+-- "A new bench is all zero."
+unfoldable pub newRecord : Record
+newRecord = record { counts = replicate seats 0; settings = replicate seats (settingsOf plusZero) }
+
+unfoldable pub newBench : Bench
+newBench = record { seats = newRecord; rest = replicate restNumbers plusZero; drape = replicate drapeNumbers plusZero; pins = replicate pinBytes 0 }
+
+-- What is read of a record's list past its end.
+abbrev pub noSettings : Settings
+noSettings = settingsOf nan
+
+-- The strand of seat s, and the bench with x for the strand of seat s.
+unfoldable pub strandOf : ℕ → Bench → Strand
+strandOf s b = record {
+  count = getD (b .seats .counts) s 0;
+  settings = getD (b .seats .settings) s noSettings;
+  rest = part (b .rest) (restPart * s) restPart;
+  drape = part (b .drape) (drapePart * s) drapePart;
+  pins = part (b .pins) (pinPart * s) pinPart;
+}
+
+unfoldable pub putStrand : ℕ → Strand → Bench → Bench
+putStrand s x b = record {
+  seats = record { counts = set (b .seats .counts) s (x .count); settings = set (b .seats .settings) s (x .settings) };
+  rest = put (b .rest) (restPart * s) (x .rest);
+  drape = put (b .drape) (drapePart * s) (x .drape);
+  pins = put (b .pins) (pinPart * s) (x .pins);
+}
