@@ -6,3 +6,4 @@ pub mod Lists
 pub mod Isolated
 pub mod Table
 pub mod Filled
+pub mod PinTable

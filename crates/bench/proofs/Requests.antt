@@ -20,7 +20,7 @@ use Rattle.bench.specs.declared.seats.Settings.{Settings}
 use Rattle.bench.specs.Areas.{vectorPart, pinPart}
 use Rattle.bench.specs.Strand.{Strand}
 use Rattle.bench.specs.Given.{goodCount, goodSettings, goodSeat}
-use Rattle.bench.specs.Calls.{Request, load, unload, pin, look, companion, Answer, Verdict, declined, done, decline, padded, loadedStrand, emptyStrand, pinnedStrand, onStrand}
+use Rattle.bench.specs.Calls.{Request, load, unload, pin, look, companion, Answer, Verdict, declined, done, decline, padded, loadedStrand, emptyStrand, pinnedStrand, onStrand, numberBy}
 use Rattle.bench.specs.Isolation.{Event, pinned, accepts, eventsOf, position, Told, nothing, since, tell, told}
 use Rattle.bench.proofs.SeatParts.{Fine, count-small}
 
@@ -55,6 +55,17 @@ unless : {a : Request} {x : Strand} (k : ℕ) {t : Bool} {v : Verdict} → T (le
 unfolding decline
 unless k {t = true} h f = refuses (leb→le 1 k (both-left (leb 1 k) (leb k 11) h)) (leb→le k 11 (both-right (leb 1 k) (leb k 11) h))
 unless k {t = false} h f = f refl
+
+-- a chain that ends with 0 has passed its first test
+pub record Passed (k : ℕ) (t : Bool) (v : Verdict) : Type 0 where
+  pub test : t ≡ false
+  pub is : decline k t v ≡ v
+  pub then : numberBy v ≡ 0
+
+pub passed : (k : ℕ) (t : Bool) (v : Verdict) → 1 ≤ k → numberBy (decline k t v) ≡ 0 → Passed k t v
+unfolding decline
+passed k true v h e = absurd (omega arith)
+passed k false v h e = record { test = refl; is = refl; then = e }
 
 -- ---- load
 length-padded : (l : List Float) → length l ≤ vectorPart → length (padded l) ≡ vectorPart

@@ -17,6 +17,7 @@ use Rattle.matrix.specs.System.{every}
 use Rattle.matrix.proofs.Parts.{length-part, length-put, part-put-same, part-put-apart}
 use Rattle.matrix.proofs.Every.{every-at, every-all, and-left, and-right}
 use Rattle.matrix.proofs.Cases.{by-order, by-equality, by-test}
+use Rattle.bench.specs.declared.seats.Settings.{Settings}
 use Rattle.bench.specs.Areas.{seats, restNumbers, drapeNumbers, pinBytes, restPart, drapePart, pinPart}
 use Rattle.bench.specs.Strand.{Strand, Bench, newRecord, newBench, noSettings, strandOf, putStrand}
 use Rattle.bench.specs.Given.{goodCount, goodSettings, goodSeat, goodRecord}
@@ -59,9 +60,12 @@ pub record Fine (x : Strand) : Type 0 where
   pub pins : length (x .pins) ≡ pinPart
   pub seat : goodSeat (x .count) (x .settings) ≡ true
 
-pub count-small : (x : Strand) → Fine x → x .count ≤ 32
+pub small-seat : (n : ℕ) (g : Settings) → goodSeat n g ≡ true → n ≤ 32
 unfolding goodSeat
-count-small x f = by-test (eqb (x .count) 0) (λ e. omega (arith, eqb-true (x .count) 0 e)) (λ e. leb-true (x .count) 32 (and-right (leb 2 (x .count)) _ (and-left (goodCount (x .count)) (goodSettings (x .settings)) (rw e at (f .seat)))))
+small-seat n g h = by-test (eqb n 0) (λ e. omega (arith, eqb-true n 0 e)) (λ e. leb-true n 32 (and-right (leb 2 n) (leb n 32) (and-left (goodCount n) (goodSettings g) (rw e at h))))
+
+pub count-small : (x : Strand) → Fine x → x .count ≤ 32
+count-small x f = small-seat (x .count) (x .settings) (f .seat)
 
 -- ---- the strand that is read
 module _ (b : Bench) (g : Good b) (s : ℕ) (h : s < seats) where

@@ -32,6 +32,9 @@ pub record Call : Type 0 where
   pub seat : ℕ
   pub request : Request
 
+abbrev pub call : ℕ → Request → Call
+call s a = record { seat = s; request = a }
+
 -- The seats that a call names: "a call on seat 6 or above is in no solo run".
 abbrev pub names : Call → List ℕ
 names c = cond (ltb (c .seat) seats) (c .seat ∷ []) []

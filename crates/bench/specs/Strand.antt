@@ -28,6 +28,9 @@ pub record Bench : Type 0 where
   pub drape : List Float
   pub pins : List ℕ
 
+abbrev pub benchOf : Record → List Float → List Float → List ℕ → Bench
+benchOf r rest drape pins = record { seats = r; rest = rest; drape = drape; pins = pins }
+
 abbrev pub settingsOf : Float → Settings
 settingsOf x = record { «stiff_length» = x; «stiff_bendtwist0» = x; «stiff_bendtwist1» = x; «stiff_bendtwist2» = x; «conv_ratio» = x }
 

@@ -1,4 +1,5 @@
 // The bench: six seats, each empty or with one strand, in areas that the caller lends.
 pub mod answers;
 pub mod given;
+pub mod pin;
 pub mod seats;

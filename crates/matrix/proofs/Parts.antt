@@ -122,3 +122,25 @@ module _ {ℓ} {A : Type ℓ} where
       let l = length-part (put w o p) k n (omega (arith, length-put w o p)) in
       ext-getD d (part (put w o p) k n) (part w k n) (l ∙ sym (length-part w k n h))
       (λ i b. let c : i < n = omega arith in getD-part (put w o p) k n i d c ∙ getD-outside w o p (k + i) d (λ x y. a (k + i) x y (omega arith) (omega arith)) ∙ sym (getD-part w k n i d c))
+
+  -- a part put back where it was, as it was and with one element changed
+  pub put-part : (w : List A) (o n : ℕ) → put w o (part w o n) ≡ w
+  unfolding put part
+  put-part [] o n = refl
+  put-part (a ∷ w) (suc o) n = ap (λ (l : List A). a ∷ l) (put-part w o n)
+  put-part (a ∷ w) zero zero = refl
+  put-part (a ∷ w) zero (suc n) = ap (λ (l : List A). a ∷ l) (put-part w zero n)
+
+  put-changed : (w : List A) (o n i k : ℕ) (x : A) → k ≡ o + i → i < n → put w o (set (part w o n) i x) ≡ set w k x
+  unfolding put part
+  put-changed [] o n i k x e h = refl
+  put-changed (a ∷ w) (suc o) n i zero x e h = absurd (omega arith)
+  put-changed (a ∷ w) (suc o) n i (suc k) x e h = ap (λ (l : List A). a ∷ l) (put-changed w o n i k x (omega arith) h)
+  put-changed (a ∷ w) zero zero i k x e h = absurd (omega arith)
+  put-changed (a ∷ w) zero (suc n) zero zero x e h = ap (λ (l : List A). x ∷ l) (put-part w zero n)
+  put-changed (a ∷ w) zero (suc n) zero (suc k) x e h = absurd (omega arith)
+  put-changed (a ∷ w) zero (suc n) (suc i) zero x e h = absurd (omega arith)
+  put-changed (a ∷ w) zero (suc n) (suc i) (suc k) x e h = ap (λ (l : List A). a ∷ l) (put-changed w zero n i k x (omega arith) (omega arith))
+
+  pub put-set : (w : List A) (o n i : ℕ) (x : A) → i < n → put w o (set (part w o n) i x) ≡ set w (o + i) x
+  put-set w o n i x h = put-changed w o n i (o + i) x refl h
