@@ -7,3 +7,4 @@ pub mod Isolated
 pub mod Table
 pub mod Filled
 pub mod PinTable
+pub mod LookTable
