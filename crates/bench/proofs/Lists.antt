@@ -1,16 +1,16 @@
 -- Lists of calls, for any set of seats, the party: the calls that are kept answer alike, and leave the party's strands alike, with the others between them and without.
 -- By induction over the list; of a call it is known only that a kept one does the same to benches that agree on the party, and that another leaves the party's strands.
 use mathlib.Core.Path.{_≡_, refl, sym, ap₂, _∙_}
-use mathlib.Core.Bool.{Bool, true, false, _||_, or-true, false≢true}
+use mathlib.Core.Bool.{Bool, true, false, or-true, false≢true}
 use mathlib.Core.List.{List, [], _∷_}
 use Prim.Native.Nat.{ℕ, _<_}
 use lib.Dec.{eqb}
 use borrow.Author.Tests.{eqb-true}
 use Rattle.matrix.proofs.Cases.{by-test}
 use Rattle.bench.specs.Areas.{seats}
-use Rattle.bench.specs.Strand.{Strand, Bench, strandOf}
+use Rattle.bench.specs.Strand.{Bench, strandOf}
 use Rattle.bench.specs.Calls.{Call, names, answerOf, afterOf}
-use Rattle.bench.specs.Isolation.{any, on, keep, solo, heard, answers, after}
+use Rattle.bench.specs.Isolation.{any, on, solo, heard, answers, after}
 use Rattle.bench.proofs.SeatParts.{Good}
 use Rattle.bench.proofs.Local.{Local}
 

@@ -2,7 +2,7 @@
 -- Of a good bench refusals 1 and 2 ask only the seat number; the rest is what a request does to a strand.
 use mathlib.Core.Path.{_≡_, refl, sym, ap, _∙_}
 use mathlib.Core.Bool.{Bool, true, false, not, cond, _&&_, or-false, false≢true}
-use mathlib.Core.List.{List, [], _∷_}
+use mathlib.Core.List.{[]}
 use mathlib.Core.Logic.{_≢_}
 use Prim.Native.Nat.{ℕ, _≤_, _<_, zero-le}
 use native.Mathlib.Omega.{arith}
@@ -10,10 +10,11 @@ use lib.Dec.{eqb, ltb}
 use borrow.Author.Tests.{ltb-true, eqb-true, lt-ltb, eq-eqb, ne-eqb}
 use Rattle.matrix.proofs.Cases.{by-test}
 use Rattle.bench.specs.Areas.{seats}
-use Rattle.bench.specs.Strand.{Strand, Bench, strandOf, putStrand}
+use Rattle.bench.specs.Strand.{Strand, Bench, strandOf}
 use Rattle.bench.specs.Given.{goodRecord}
-use Rattle.bench.specs.Calls.{Request, load, unload, pin, look, companion, Call, names, Answer, said, refusal, Verdict, declined, done, decline, onStrand, lentLong, verdict, numberBy, answerBy, afterBy, numberOf, answerOf, afterOf}
-use Rattle.bench.specs.Isolation.{any, on, Event, accepts, eventsOf, Told, told, Answered, CompanionTells}
+use Rattle.bench.specs.Verdicts.{Answer, said, Verdict, declined, done, decline}
+use Rattle.bench.specs.Calls.{Request, load, unload, pin, look, companion, Call, refusal, onStrand, lentLong, verdict, numberBy, answerBy, afterBy, numberOf, answerOf, afterOf}
+use Rattle.bench.specs.Isolation.{any, on, accepts, eventsOf, Told, told, Answered, CompanionTells}
 use Rattle.bench.proofs.SeatParts.{Good, fine-of, strand-same, strand-other, good-put}
 use Rattle.bench.proofs.Requests.{Tracks, Next, Lawful, lawful}
 

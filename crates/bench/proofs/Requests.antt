@@ -20,8 +20,10 @@ use Rattle.bench.specs.declared.seats.Settings.{Settings}
 use Rattle.bench.specs.Areas.{vectorPart, pinPart}
 use Rattle.bench.specs.Strand.{Strand}
 use Rattle.bench.specs.Given.{goodCount, goodSettings, goodSeat}
-use Rattle.bench.specs.Calls.{Request, load, unload, pin, look, companion, Answer, Verdict, declined, done, decline, padded, loadedStrand, emptyStrand, pinnedStrand, onStrand, numberBy}
-use Rattle.bench.specs.Isolation.{Event, pinned, accepts, eventsOf, position, Told, nothing, since, tell, told}
+use Rattle.bench.specs.Verdicts.{Answer, Verdict, declined, done, decline}
+use Rattle.bench.specs.Calls.{Request, load, unload, pin, look, companion, padded, loadedStrand, emptyStrand, pinnedStrand, onStrand, numberBy}
+use Rattle.bench.specs.Isolation.{pinned, accepts, eventsOf, position, Told, nothing, since, tell, told}
+use Rattle.bench.proofs.Padded.{length-padded}
 use Rattle.bench.proofs.SeatParts.{Fine, count-small}
 
 -- whether the pin of a component is set
@@ -68,10 +70,6 @@ passed k true v h e = absurd (omega arith)
 passed k false v h e = record { test = refl; is = refl; then = e }
 
 -- ---- load
-length-padded : (l : List Float) → length l ≤ vectorPart → length (padded l) ≡ vectorPart
-unfolding padded
-length-padded l h = simp (length-append, length-replicate) (omega arith)
-
 unpinned : (k : ℕ) → k < pinPart → not (eqb (getD (replicate pinPart 0) k 0) 0) ≡ false
 unpinned k h = ap (λ (b : ℕ). not (eqb b 0)) (getD-replicate pinPart k 0 0 h)
 
@@ -80,19 +78,21 @@ unfolding padded
 given-first xs rest k h m = List·getD-append (padded xs) rest nan k (omega (arith, length-padded xs m)) ∙ List·getD-append xs (replicate (vectorPart - length xs) plusZero) nan k h
 
 -- what the tests of a load have shown
-record Sized (n : ℕ) (xs fs : List Float) : Type 0 where
-  count : goodCount n ≡ true
-  small : n ≤ 32
-  positions : length xs ≡ 3 * n
-  frames : length fs ≡ 3 * n
+pub record Sized (n : ℕ) (xs fs : List Float) : Type 0 where
+  pub count : goodCount n ≡ true
+  pub least : 2 ≤ n
+  pub small : n ≤ 32
+  pub positions : length xs ≡ 3 * n
+  pub frames : length fs ≡ 3 * n
 
-sized : (n : ℕ) (xs fs : List Float) → not (goodCount n && eqb (length xs) (3 * n) && eqb (length fs) (3 * n)) ≡ false → Sized n xs fs
+pub sized : (n : ℕ) (xs fs : List Float) → not (goodCount n && eqb (length xs) (3 * n) && eqb (length fs) (3 * n)) ≡ false → Sized n xs fs
 sized n xs fs h =
     let b = not-false (goodCount n && eqb (length xs) (3 * n) && eqb (length fs) (3 * n)) h in
     let cs = and-left (goodCount n && eqb (length xs) (3 * n)) (eqb (length fs) (3 * n)) b in
     let gc = and-left (goodCount n) (eqb (length xs) (3 * n)) cs in
     record {
       count = gc;
+      least = leb-true 2 n (and-left (leb 2 n) (leb n 32) gc);
       small = leb-true n 32 (and-right (leb 2 n) (leb n 32) gc);
       positions = eqb-true (length xs) (3 * n) (and-right (goodCount n) (eqb (length xs) (3 * n)) cs);
       frames = eqb-true (length fs) (3 * n) (and-right (goodCount n && eqb (length xs) (3 * n)) (eqb (length fs) (3 * n)) b);

@@ -1,7 +1,7 @@
 -- Reading and writing a seat's strand: what was written is read back, and the other seats' strands stay, because the parts of an area share no index.
 -- A bench is good where its areas have their lengths and every seat passes; writing a fine strand keeps it so.
-use mathlib.Core.Path.{_≡_, refl, sym, ap, _∙_}
-use mathlib.Core.Bool.{Bool, true, false, _&&_, _||_}
+use mathlib.Core.Path.{_≡_, refl, _∙_}
+use mathlib.Core.Bool.{true}
 use mathlib.Core.List.{List}
 use mathlib.Core.Logic.{_≢_}
 use Prim.Native.Nat.{ℕ, _+_, _*_, _≤_, _<_}

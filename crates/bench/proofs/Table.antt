@@ -1,19 +1,19 @@
 -- The chain of refusals and the table say the same, test by test: a refused test is one whose condition is met.
-use mathlib.Core.Path.{_≡_, refl, sym, ap, _∙_}
-use mathlib.Core.Bool.{Bool, true, false, not, cond, _&&_, _||_}
+use mathlib.Core.Path.{_≡_, refl, _∙_}
+use mathlib.Core.Bool.{Bool, true, false, not, _&&_, _||_}
 use mathlib.Core.List.{List, [], _∷_}
 use Prim.Native.Nat.{ℕ, _*_}
 use lib.Dec.{eqb, ltb, leb}
 use lib.ListN.{length}
 use borrow.Author.Tests.{ltb-true, ltb-false, lt-leb, le-leb}
 use Rattle.vectors.specs.Finite.{isFinite}
-use Rattle.matrix.specs.Rows.{rows3}
 use Rattle.matrix.specs.System.{every}
 use Rattle.matrix.proofs.Cases.{by-test}
 use Rattle.bench.specs.Areas.{seats}
-use Rattle.bench.specs.Strand.{Strand, Bench, strandOf}
-use Rattle.bench.specs.Given.{goodCount, goodSettings, goodRecord, edgesFit}
-use Rattle.bench.specs.Calls.{Request, load, unload, pin, look, companion, Call, Verdict, decline, onStrand, lentLong, verdict, numberBy, numberOf}
+use Rattle.bench.specs.Strand.{Strand, strandOf}
+use Rattle.bench.specs.Given.{goodCount, goodSettings, goodRecord}
+use Rattle.bench.specs.Verdicts.{Verdict, decline}
+use Rattle.bench.specs.Calls.{Request, load, unload, pin, look, companion, onStrand, lentLong, verdict, numberBy, numberOf}
 use Rattle.bench.specs.Table.{Row, row, strandRows, rowsOf, first, ByTheTable}
 
 -- one test
@@ -35,7 +35,7 @@ not-both : (a b : Bool) → not (a && b) ≡ (not a || not b)
 not-both true b = refl
 not-both false b = refl
 
-not-three : (a b c : Bool) → not (a && b && c) ≡ (not a || not b || not c)
+pub not-three : (a b c : Bool) → not (a && b && c) ≡ (not a || not b || not c)
 not-three true b c = not-both b c
 not-three false b c = refl
 

@@ -1,6 +1,6 @@
 -- The lent areas and the parts of each seat in them: document 01, "The areas".
 use mathlib.Core.Path.{_≡_}
-use Prim.Native.Nat.{ℕ, _+_, _*_}
+use Prim.Native.Nat.{ℕ, _*_}
 
 abbrev pub seats : ℕ
 seats = 6

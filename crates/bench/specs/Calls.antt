@@ -1,5 +1,5 @@
 -- The calls on the bench: what each answers, and the bench after it.
-use mathlib.Core.Bool.{Bool, true, false, not, cond, _&&_}
+use mathlib.Core.Bool.{Bool, not, cond, _&&_}
 use mathlib.Core.List.{List, [], _∷_, _++_}
 use Prim.Native.Nat.{ℕ, _+_, _-_, _*_}
 use lib.Dec.{eqb, ltb}
@@ -13,6 +13,7 @@ use Rattle.matrix.specs.System.{every}
 use Rattle.bench.specs.declared.seats.Settings.{Settings}
 use Rattle.bench.specs.Areas.{seats, restNumbers, drapeNumbers, pinBytes, restPart, drapePart, pinPart, vectorPart}
 use Rattle.bench.specs.Strand.{Strand, Bench, settingsOf, strandOf, putStrand}
+use Rattle.bench.specs.Verdicts.{Answer, said, handed, Verdict, declined, done, decline}
 use Rattle.bench.specs.Given.{goodCount, goodSettings, goodRecord, edgesFit}
 
 -- What is asked of a seat, with all that the call gives.
@@ -39,12 +40,6 @@ call s a = record { seat = s; request = a }
 abbrev pub names : Call → List ℕ
 names c = cond (ltb (c .seat) seats) (c .seat ∷ []) []
 
--- "A call's answer is its refusal number, or that it is accepted"; a look's "is only the numbers handed back".
-pub data Answer : Type 0 where
-  -- 0 for accepted
-  said : (number : ℕ) → Answer
-  handed : (numbers : List Float) → Answer
-
 -- How a request is answered that is declined with k.
 abbrev pub refusal : Request → ℕ → Answer
 refusal (load n g xs fs) k = said k
@@ -52,16 +47,6 @@ refusal unload k = said k
 refusal (pin v c x) k = said k
 refusal (look j) k = handed []
 refusal (companion j) k = said k
-
--- What comes of a request: it is declined with a number, or answered, and then leaves a strand on its seat.
-pub data Verdict : Type 0 where
-  declined : (number : ℕ) → Verdict
-  done : Answer → Strand → Verdict
-
--- "Lowest number first": declined with k where the test holds, else by the rest of the chain.
-unfoldable pub decline : ℕ → Bool → Verdict → Verdict
-decline k true v = declined k
-decline k false v = v
 
 -- l, and zeros up to the numbers of 32 vertices: "every entry past n becomes 0"
 unfoldable pub padded : List Float → List Float

@@ -8,8 +8,10 @@ use lib.Dec.{eqb}
 use lib.ListN.{getD}
 use lib.Ieee.{Float, nan}
 use Rattle.bench.specs.Areas.{seats}
-use Rattle.bench.specs.Strand.{Strand, Bench, newBench, strandOf}
-use Rattle.bench.specs.Calls.{Request, load, unload, pin, look, companion, Call, names, Answer, said, handed, refusal, numberOf, answerOf, afterOf}
+use Rattle.bench.specs.Strand.{Bench, newBench, strandOf}
+use Rattle.bench.specs.Verdicts.{Answer, said, handed, reported}
+use Rattle.bench.specs.StepNumbers.{stepNumbers}
+use Rattle.bench.specs.Calls.{Request, load, unload, pin, look, companion, Call, names, refusal, numberOf, answerOf, afterOf}
 
 -- ---- lists of calls
 
@@ -56,6 +58,7 @@ pub data Event : Type 0 where
 abbrev pub accepts : Answer → Bool
 accepts (said k) = eqb k 0
 accepts (handed l) = true
+accepts (reported r) = eqb (stepNumbers r .number) 0
 
 abbrev pub eventsOf : Request → List Event
 eventsOf (load n g xs fs) = loaded xs ∷ []

@@ -2,6 +2,7 @@
 pub mod Areas
 pub mod Strand
 pub mod Given
+pub mod Verdicts
 pub mod Calls
 pub mod StepNumbers
 pub mod Isolation

@@ -1,11 +1,10 @@
 -- The table of document 01, "When the bench declines", for the calls that exist: which number a call is refused with.
 use mathlib.Core.Path.{_≡_}
-use mathlib.Core.Bool.{Bool, not, cond, _&&_, _||_}
-use mathlib.Core.List.{List, [], _∷_, _++_}
-use Prim.Native.Nat.{ℕ, _+_, _*_, _≤_, _<_}
-use lib.Dec.{eqb, ltb, leb}
+use mathlib.Core.Bool.{Bool, not, cond, _||_}
+use mathlib.Core.List.{List, [], _∷_}
+use Prim.Native.Nat.{ℕ, _*_}
+use lib.Dec.{eqb, leb}
 use lib.ListN.{length}
-use lib.Ieee.{Float}
 use Rattle.vectors.specs.Finite.{isFinite}
 use Rattle.matrix.specs.Rows.{rows3}
 use Rattle.matrix.specs.System.{every}

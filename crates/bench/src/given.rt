@@ -1,9 +1,17 @@
-// Which counts and settings are taken, at load and in a record.
+// Which counts, settings, numbers and edges are taken.
 use crate::seats::Record;
 use crate::seats::Settings;
+use matrix::rows;
+use vectors::edge3;
 use vectors::finite;
 ghost use mathlib.Core.Path.{_≡_};
-ghost use Rattle.bench.specs.Given.{goodCount, notNegative, goodSettings, goodSeat, goodRecord};
+ghost use Prim.Native.Nat.{_+_, _*_, _≤_};
+ghost use lib.ListN.{length};
+ghost use Rattle.vectors.specs.Finite.{isFinite};
+ghost use Rattle.vectors.specs.Edge.{edgeLength};
+ghost use Rattle.matrix.specs.Rows.{row3, rows3};
+ghost use Rattle.matrix.specs.System.{every};
+ghost use Rattle.bench.specs.Given.{goodCount, notNegative, goodSettings, goodSeat, goodRecord, edgesFit};
 
 // From 2 to 32 vertices.
 pub fn good_count(n: usize) -> bool
@@ -46,4 +54,43 @@ pub fn good_record(seats: Record) -> bool
         & (good_seat(c[1], g[1])
             & (good_seat(c[2], g[2])
                 & (good_seat(c[3], g[3]) & (good_seat(c[4], g[4]) & good_seat(c[5], g[5])))))
+}
+
+// Whether every number of the list is finite.
+pub(crate) fn numbers_are_finite(list: &[f64]) -> bool
+    ensures { λ r. ⌜ r ≡ every isFinite (now (list .entry)) ⌝ }
+{
+    let mut all = true;
+    let mut i = 0;
+    while i < list.len() {
+        all = all & finite::is_finite(list[i]);
+        i += 1;
+    }
+    all
+}
+
+// Whether the edge from vertex i has a length to work with.
+fn edge_fits(positions: &[f64], i: usize) -> bool
+    requires { ⌜ 3 * i + 6 ≤ length (now positions) ⌝ }
+    ensures { λ r. ⌜ r ≡ edgeLength (row3 (now (positions .entry)) (3 * i)) (row3 (now (positions .entry)) (3 * i + 3)) .acceptable ⌝ }
+{
+    let p0 = rows::load3(positions, 3 * i);
+    let p1 = rows::load3(positions, 3 * i + 3);
+    let length = edge3::length(p0, p1);
+    length.acceptable
+}
+
+// Whether every edge between the n vertices has.
+pub(crate) fn edges_fit(positions: &[f64], n: usize) -> bool
+    requires { ⌜ 1 ≤ n ⌝ }
+    requires { ⌜ 3 * n ≤ length (now positions) ⌝ }
+    ensures { λ r. ⌜ r ≡ edgesFit n (rows3 (now (positions .entry)) 0 n) ⌝ }
+{
+    let mut all = true;
+    let mut i = 0;
+    while i + 1 < n {
+        all = all & edge_fits(positions, i);
+        i += 1;
+    }
+    all
 }

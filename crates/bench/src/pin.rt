@@ -1,4 +1,5 @@
 // The call pin: one byte of one seat's pins.
+use crate::areas;
 use crate::given;
 use crate::seats::Record;
 ghost use mathlib.Core.Path.{_≡_};
@@ -6,16 +7,17 @@ ghost use mathlib.Core.List.{List};
 ghost use Prim.Native.Nat.{ℕ};
 ghost use lib.Ieee.{Float};
 ghost use Rattle.bench.specs.Strand.{benchOf};
-ghost use Rattle.bench.specs.Calls.{pin, call, said, numberOf, answerOf, afterOf};
+ghost use Rattle.bench.specs.Verdicts.{said};
+ghost use Rattle.bench.specs.Calls.{pin, call, numberOf, answerOf, afterOf};
 
 // The number that it is refused with, 0 for none.
 fn pin_number(seats: Record, pins: &[u8], seat: usize, vertex: usize, component: usize) -> u8
     ensures { λ k. ⌜ ((rest drape : List Float) (byte : ℕ) → k ≡ numberOf (call seat (pin vertex component byte)) (benchOf seats rest drape (now (pins .entry)))) ⌝ }
 {
-    if (pins.len() != 768) | !given::good_record(seats) {
+    if (pins.len() != areas::PINS) | !given::good_record(seats) {
         return 1;
     }
-    if 6 <= seat {
+    if areas::SEATS <= seat {
         return 2;
     }
     let counts = seats.counts;
@@ -46,6 +48,6 @@ pub fn pin(
     if k != 0 {
         return k;
     }
-    pins[128 * seat + (4 * vertex + component)] = byte;
+    pins[areas::PIN_PART * seat + (4 * vertex + component)] = byte;
     0
 }

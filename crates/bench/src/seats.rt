@@ -1,6 +1,11 @@
 // What the bench knows of its six seats beside the areas.
+use crate::areas;
 ghost use mathlib.Core.Path.{_≡_};
-ghost use Rattle.bench.specs.Strand.{newRecord};
+ghost use Prim.Native.Nat.{_<_};
+ghost use lib.ListN.{set};
+ghost use Rattle.vectors.specs.Number.{plusZero};
+ghost use Rattle.bench.specs.Areas.{seats};
+ghost use Rattle.bench.specs.Strand.{settingsOf, newRecord};
 
 // A strand's settings, which travel together: the stiffness against stretch, the three against bend
 // and twist, and the ratio below which a solve ends.
@@ -18,21 +23,46 @@ pub struct Record {
     pub settings: [Settings; 6],
 }
 
-impl Record {
-    // The record of a new bench: all zero.
-    pub fn new() -> Record
-        ensures { λ r. ⌜ r ≡ newRecord ⌝ }
+// The record after a call, and the number that the call is refused with, 0 for none.
+pub struct Changed {
+    pub seats: Record,
+    pub refusal: u8,
+}
+
+impl Settings {
+    // Those of an empty seat.
+    pub fn zero() -> Settings
+        ensures { λ r. ⌜ r ≡ settingsOf plusZero ⌝ }
     {
-        let none = Settings {
+        Settings {
             stiff_length: 0.0,
             stiff_bendtwist0: 0.0,
             stiff_bendtwist1: 0.0,
             stiff_bendtwist2: 0.0,
             conv_ratio: 0.0,
-        };
-        Record {
-            counts: [0; 6],
-            settings: [none; 6],
         }
     }
+}
+
+impl Record {
+    // The record of a new bench: all zero.
+    pub fn new() -> Record
+        ensures { λ r. ⌜ r ≡ newRecord ⌝ }
+    {
+        Record {
+            counts: [0; areas::SEATS],
+            settings: [Settings::zero(); areas::SEATS],
+        }
+    }
+}
+
+// The record with n and the settings for the seat.
+pub(crate) fn seated(record: Record, seat: usize, n: usize, settings: Settings) -> Record
+    requires { ⌜ seat < seats ⌝ }
+    ensures { λ r. ⌜ r ≡ record { counts = set («record» .counts) seat n; settings = set («record» .settings) seat settings } ⌝ }
+{
+    let mut after = record;
+    after.counts[seat] = n;
+    after.settings[seat] = settings;
+    after
 }

@@ -5,7 +5,7 @@ use mathlib.Core.List.{List, [], _∷_, _++_}
 use Prim.Native.Nat.{ℕ, zero, suc, _+_, _≤_, _<_, suc-le-suc}
 use native.Mathlib.Nat.{not-suc-le-zero, le-of-suc-le-suc}
 use native.Mathlib.Omega.{arith}
-use lib.ListN.{length, getD, set, length-take, length-drop, drop}
+use lib.ListN.{length, getD, set, replicate, length-take, length-drop, drop}
 use lib.Seq.{getD-take, getD-drop, ext-getD}
 use Rattle.matrix.specs.Parts.{Apart, part, put, table}
 
@@ -144,3 +144,28 @@ module _ {ℓ} {A : Type ℓ} where
 
   pub put-set : (w : List A) (o n i : ℕ) (x : A) → i < n → put w o (set (part w o n) i x) ≡ set w (o + i) x
   put-set w o n i x h = put-changed w o n i (o + i) x refl h
+
+  -- a part of a part
+  pub part-part : (d : A) (w : List A) (o m i n k : ℕ) → k ≡ o + i → i + n ≤ m → o + m ≤ length w → part (part w o m) i n ≡ part w k n
+  part-part d w o m i n k e h b =
+      let l = length-part w o m b in
+      ext-getD d (part (part w o m) i n) (part w k n) (length-part (part w o m) i n (omega arith) ∙ sym (length-part w k n (omega arith)))
+      (λ j c. let f : j < n = omega (arith, length-part (part w o m) i n (omega arith)) in let g : o + (i + j) ≡ k + j = omega arith in getD-part (part w o m) i n j d f ∙ getD-part w o m (i + j) d (omega arith) ∙ ap (λ (x : ℕ). getD w x d) g ∙ sym (getD-part w k n j d f))
+
+  -- ---- a loop that stores one element a turn
+  pub put-more : (w : List A) (o i : ℕ) (f : ℕ → A) → set (put w o (table i f)) (o + i) (f i) ≡ put w o (table (suc i) f)
+  put-more w o i f =
+      put-one (put w o (table i f)) (o + i) (f i)
+      ∙ ap (λ (k : ℕ). put (put w o (table i f)) (o + k) (f i ∷ [])) (sym (length-table i f))
+      ∙ sym (put-append w o (table i f) (f i ∷ []))
+      ∙ ap (put w o) (sym (table-snoc i f))
+
+  pub table-of : (d : A) (l : List A) → table (length l) (λ i. getD l i d) ≡ l
+  unfolding table
+  table-of d [] = refl
+  table-of d (a ∷ l) = ap (λ (k : List A). a ∷ k) (table-of d l)
+
+  pub table-same : (n : ℕ) (a : A) → table n (λ _. a) ≡ replicate n a
+  unfolding table
+  table-same zero a = refl
+  table-same (suc n) a = ap (λ (l : List A). a ∷ l) (table-same n a)

@@ -2,7 +2,7 @@
 use borrow.Author.Needs.{needs}
 use mathlib.Core.Path.{sym, ap, _∙_}
 use Rattle.bench.specs.Strand.{benchOf}
-use Rattle.bench.specs.Calls.{said}
+use Rattle.bench.specs.Verdicts.{said}
 use Rattle.bench.proofs.Local.{companion-tells}
 use Rattle.bench.proofs.LookTable.{companion-leaves}
 use Rattle.bench.proofs.look.companion.Statement.{statement}

@@ -1,9 +1,12 @@
 -- A refused call leaves the bytes; an accepted one stores one.
 use borrow.Author.Needs.{needs}
-use mathlib.Core.Path.{sym, _∙_}
+use mathlib.Core.Path.{refl, sym, _∙_}
 use mathlib.Core.List.{[]}
 use native.Mathlib.Omega.{arith}
-use Rattle.bench.proofs.PinTable.{pin-accepted, pin-declined, pin-done}
+use Rattle.bench.specs.Strand.{benchOf}
+use Rattle.bench.specs.Calls.{pin, call}
+use Rattle.bench.proofs.Entered.{call-declined}
+use Rattle.bench.proofs.PinTable.{pin-accepted, pin-done}
 use Rattle.bench.proofs.pin.pin.Statement.{statement}
 use Rattle.bench.proofs.pin.pin.Tie as tie
 
@@ -16,7 +19,7 @@ same-length c = search needs
 returns : tie.Need-returns
 returns c =
     let a = c .before .before .before .before .args in
-    (λ rest drape. pin-declined (a .seats) rest drape (a .pins .now) (a .seat) (a .vertex) (a .component) (a .byte) _ (c .before .pin-number .ensures rest drape (a .byte)) (c .if1 .taken) .0, λ rest drape. pin-declined (a .seats) rest drape (a .pins .now) (a .seat) (a .vertex) (a .component) (a .byte) _ (c .before .pin-number .ensures rest drape (a .byte)) (c .if1 .taken) .1)
+    (λ rest drape. call-declined (call (a .seat) (pin (a .vertex) (a .component) (a .byte))) (benchOf (a .seats) rest drape (a .pins .now)) _ refl (c .before .pin-number .ensures rest drape (a .byte)) (c .if1 .taken) .0, λ rest drape. call-declined (call (a .seat) (pin (a .vertex) (a .component) (a .byte))) (benchOf (a .seats) rest drape (a .pins .now)) _ refl (c .before .pin-number .ensures rest drape (a .byte)) (c .if1 .taken) .1)
 
 mul-pins : tie.Need-mul-pins
 mul-pins c = let a = c .before .before .before .before .args in let p = pin-accepted (a .seats) [] [] (a .pins .now) (a .seat) (a .vertex) (a .component) (a .byte) (sym (c .before .pin-number .ensures [] [] (a .byte)) ∙ c .if1 .left) in omega (arith, p .long, p .seat, p .vertex, p .component)

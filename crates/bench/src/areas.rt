@@ -1,0 +1,21 @@
+// The lent areas, and a seat's part of each.
+
+// How many seats there are.
+pub const SEATS: usize = 6;
+
+// Numbers in the rest area, numbers in the drape area, bytes in the pin area.
+pub const REST: usize = 1152;
+
+pub const DRAPE: usize = 2304;
+
+pub const PINS: usize = 768;
+
+// What one seat has of each.
+pub const REST_PART: usize = 192;
+
+pub const DRAPE_PART: usize = 384;
+
+pub const PIN_PART: usize = 128;
+
+// What 32 vertices take as positions, frames, velocities or working copy.
+pub const VECTOR_PART: usize = 96;
