@@ -1,9 +1,13 @@
-// Runs document 01's examples through the compiled code and writes what comes out, numbers as the
-// hexadecimal digits of their bits.
+// Runs document 01's examples and the bench's calls through the compiled code and writes what comes
+// out, each f64 as the hexadecimal digits of its bits.
 use elements::rod3_darboux;
 use elements::rod3_darboux::Rod;
 use elements::spring3;
 use vectors::vec3::Vec3;
+
+mod seats;
+mod stay;
+mod strands;
 
 fn main() {
     show_root(4.0);
@@ -16,6 +20,7 @@ fn main() {
     show_root(0.0 / 0.0);
     show_stretch();
     show_darboux();
+    seats::show();
 }
 
 // The root of x beside x.
