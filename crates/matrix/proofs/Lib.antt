@@ -1,5 +1,7 @@
 -- The laws behind the crate's proofs, and the samples.
 pub mod Parts
+pub mod Widths
+pub mod RowWidths
 pub mod RowLaws
 pub mod RowPlaces
 pub mod Cases

@@ -84,11 +84,12 @@ module _ {ℓ} {A : Type ℓ} where
   put-one (x ∷ w) (suc o) a = ap (λ (l : List A). x ∷ l) (put-one w o a)
   put-one (x ∷ w) zero a = ap (λ (l : List A). a ∷ l) (sym (put-none w zero))
 
+  pub put-three : (w : List A) (o : ℕ) (a b c : A) → set (set (set w o a) (o + 1) b) (o + 2) c ≡ put w o (a ∷ b ∷ c ∷ [])
+  put-three w o a b c =
+      rw (put-one w o a, put-one (put w o (a ∷ [])) (o + 1) b) (rw (← put-append w o (a ∷ []) (b ∷ []), put-one (put w o (a ∷ b ∷ [])) (o + 2) c) (sym (put-append w o (a ∷ b ∷ []) (c ∷ []))))
+
   pub put-four : (w : List A) (o : ℕ) (a b c d : A) → set (set (set (set w o a) (o + 1) b) (o + 2) c) (o + 3) d ≡ put w o (a ∷ b ∷ c ∷ d ∷ [])
-  put-four w o a b c d =
-      rw (put-one w o a, put-one (put w o (a ∷ [])) (o + 1) b)
-      (rw (← put-append w o (a ∷ []) (b ∷ []), put-one (put w o (a ∷ b ∷ [])) (o + 2) c)
-      (rw (← put-append w o (a ∷ b ∷ []) (c ∷ []), put-one (put w o (a ∷ b ∷ c ∷ [])) (o + 3) d) (sym (put-append w o (a ∷ b ∷ c ∷ []) (d ∷ [])))))
+  put-four w o a b c d = rw (put-three w o a b c, put-one (put w o (a ∷ b ∷ c ∷ [])) (o + 3) d) (sym (put-append w o (a ∷ b ∷ c ∷ []) (d ∷ [])))
 
   -- ---- parts
   pub getD-table : (n : ℕ) (f : ℕ → A) (i : ℕ) (d : A) → i < n → getD (table n f) i d ≡ f i

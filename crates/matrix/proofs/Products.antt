@@ -16,6 +16,8 @@ use Rattle.matrix.specs.Rows.{zeroRow, zeroBlock, row4, rows4, block16, 
 use Rattle.matrix.specs.Layout.{before, after, rowLength, rowStart}
 use Rattle.matrix.specs.SparseSquare.{addProducts, rowTimes, matrixRows, multVec}
 use Rattle.matrix.proofs.Parts.{table-ext, getD-table, getD-part, part-table}
+use Rattle.matrix.proofs.Widths.{row-of, rows-unstored-as}
+use Rattle.matrix.proofs.RowWidths.{four}
 use Rattle.matrix.proofs.RowLaws.{Stored, unstored}
 use Rattle.matrix.proofs.RowPlaces.{before-le, after-le}
 
@@ -50,8 +52,7 @@ unfolding blocks16
 block-at d l a k o b h e = getD-table k _ o d h ∙ ap (block16 l) (sym e)
 
 pub row-at : (d : Vec4) (l : List Float) (a k o b : ℕ) → o < k → b ≡ a + 4 * o → getD (rows4 l a k) o d ≡ row4 l b
-unfolding rows4
-row-at d l a k o b h e = getD-table k _ o d h ∙ ap (row4 l) (sym e)
+row-at = row-of four
 
 -- what `row_product` works out
 module _ (n i : ℕ) (row x : List Float) (old : Vec4) (h : i < n) where
@@ -122,8 +123,7 @@ lent-product w n i p at len old r es el e = rw (blocks-part w at (at + 16 * len 
 
 -- ---- the whole product, stored row by row
 pub rows-unstored : {w v : List Float} {o : ℕ} {f : ℕ → Vec4} {i : ℕ} → Stored w v o f i → (a m : ℕ) → ((j : ℕ) → a ≤ j → j < a + 4 * m → o ≤ j → j < o + 4 * i → ⊥) → rows4 v a m ≡ rows4 w a m
-unfolding rows4
-rows-unstored s a m h = table-ext m _ _ (λ k b. unstored s (a + 4 * k) (λ j x y. h j (omega arith) (omega arith)))
+rows-unstored s a m h = rows-unstored-as four s a m h
 
 pub block-unstored : {w v : List Float} {o : ℕ} {f : ℕ → Vec4} {i : ℕ} → Stored w v o f i → (k : ℕ) → ((j : ℕ) → k ≤ j → j < k + 16 → o ≤ j → j < o + 4 * i → ⊥) → block16 v k ≡ block16 w k
 unfolding block16

@@ -40,6 +40,14 @@ block16 l o = mat4 (row4 l o) (row4 l (o + 4)) (row4 l (o + 8)) (row4 l (o + 12)
 unfoldable pub blocks16 : List Float → ℕ → ℕ → List Mat4
 blocks16 l o n = table n (λ i. block16 l (o + 16 * i))
 
+-- A vector's numbers, and those of several vectors.
+unfoldable pub numbers3 : Vec3 → List Float
+numbers3 v = v .x ∷ v .y ∷ v .z ∷ []
+
+unfoldable pub flat3 : List Vec3 → List Float
+flat3 [] = []
+flat3 (v ∷ vs) = numbers3 v ++ flat3 vs
+
 -- A row's numbers, and those of several rows.
 unfoldable pub numbers4 : Vec4 → List Float
 numbers4 v = v .x ∷ v .y ∷ v .z ∷ v .w ∷ []

@@ -6,7 +6,7 @@ ghost use mathlib.Core.Path.{_≡_};
 ghost use Prim.Native.Nat.{_+_, _≤_};
 ghost use lib.ListN.{length};
 ghost use Rattle.matrix.specs.Parts.{put};
-ghost use Rattle.matrix.specs.Rows.{row3, row4, block16, numbers4, numbers16};
+ghost use Rattle.matrix.specs.Rows.{row3, row4, block16, numbers3, numbers4, numbers16};
 
 // The vector that begins at `at`.
 pub fn load3(work: &[f64], at: usize) -> Vec3
@@ -44,6 +44,16 @@ pub fn load_block(work: &[f64], at: usize) -> Mat4
         c2: load4(work, at + 8),
         c3: load4(work, at + 12),
     }
+}
+
+// v becomes the vector that begins at `at`.
+pub fn store3(area: &mut [f64], at: usize, v: Vec3)
+    requires { ⌜ at + 3 ≤ length (now area) ⌝ }
+    ensures { λ _. ⌜ now (area .exit) ≡ put (now (area .entry)) at (numbers3 v) ⌝ }
+{
+    area[at] = v.x;
+    area[at + 1] = v.y;
+    area[at + 2] = v.z;
 }
 
 // v becomes the row that begins at `at`.

@@ -18,7 +18,7 @@ ghost use Rattle.matrix.specs.System.{every, systemAt, systemIsFinite};
 ghost use Rattle.matrix.specs.HairSystem.{plusGradient, plusBlock, diagonalPlus, withDiagonal};
 
 // Whether the n rows from `at` on are finite.
-fn rows_are_finite(work: &[f64], at: usize, n: usize) -> bool
+pub fn rows_are_finite(work: &[f64], at: usize, n: usize) -> bool
     requires { ⌜ at + 4 * n ≤ length (now work) ⌝ }
     ensures { λ r. ⌜ r ≡ every vec4IsFinite (rows4 (now (work .entry)) at n) ⌝ }
 {
