@@ -13,7 +13,7 @@ use Rattle.bench.specs.Given.{goodSeat, goodRecord}
 use Rattle.bench.specs.Verdicts.{Answer, said, done}
 use Rattle.bench.specs.Calls.{Call, refusal, restLong, drapeLong, pinsLong, onStrand, lentLong, verdict, numberBy, answerBy, afterBy, numberOf, answerOf, afterOf}
 use Rattle.bench.proofs.SeatParts.{small-seat}
-use Rattle.bench.proofs.Requests.{passed}
+use Rattle.bench.proofs.Refusals.{passed}
 use Rattle.bench.proofs.Local.{answered}
 
 module _ (c : Call) (b : Bench) where

@@ -12,7 +12,7 @@ use Rattle.bench.specs.Strand.{Strand, Bench, newRecord, newBench, stran
 use Rattle.bench.specs.Calls.{Call, answerOf, afterOf}
 use Rattle.bench.specs.Isolation.{on, after, Event, accepts, eventsOf, history, position, Told, nothing, since, told, Kept, Isolation}
 use Rattle.bench.proofs.SeatParts.{Good, good-new}
-use Rattle.bench.proofs.Requests.{Tracks}
+use Rattle.bench.proofs.Tracking.{Tracks}
 use Rattle.bench.proofs.Local.{local, single, tracks-call}
 use Rattle.bench.proofs.Lists.{Respects, alike-lists, respected}
 

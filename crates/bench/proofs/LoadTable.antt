@@ -18,7 +18,8 @@ use Rattle.bench.specs.Given.{goodCount, goodSettings, goodRecord, edges
 use Rattle.bench.specs.Verdicts.{said, done}
 use Rattle.bench.specs.Calls.{load, call, loadedStrand, onStrand, lentLong, verdict, numberOf}
 use Rattle.bench.specs.Table.{strandRows, rowsOf, first}
-use Rattle.bench.proofs.Requests.{passed, sized}
+use Rattle.bench.proofs.Refusals.{passed}
+use Rattle.bench.proofs.Requests.{sized}
 use Rattle.bench.proofs.Entered.{entered, Lent, lent}
 use Rattle.bench.proofs.Table.{by-the-table, not-three}
 

@@ -16,7 +16,8 @@ use Rattle.bench.specs.Verdicts.{Answer, said, Verdict, declined, done, 
 use Rattle.bench.specs.Calls.{Request, load, unload, pin, look, companion, Call, refusal, onStrand, lentLong, verdict, numberBy, answerBy, afterBy, numberOf, answerOf, afterOf}
 use Rattle.bench.specs.Isolation.{any, on, accepts, eventsOf, Told, told, Answered, CompanionTells}
 use Rattle.bench.proofs.SeatParts.{Good, fine-of, strand-same, strand-other, good-put}
-use Rattle.bench.proofs.Requests.{Tracks, Next, Lawful, lawful}
+use Rattle.bench.proofs.Tracking.{Tracks}
+use Rattle.bench.proofs.Requests.{Next, Lawful, lawful}
 
 -- ---- refusals 1 and 2 of a good bench
 lent-good : (b : Bench) → Good b → (a : Request) → lentLong a b ≡ true

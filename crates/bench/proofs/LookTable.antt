@@ -21,7 +21,7 @@ use Rattle.bench.specs.Given.{goodRecord}
 use Rattle.bench.specs.Verdicts.{Answer, handed, Verdict, declined, done, decline}
 use Rattle.bench.specs.Calls.{look, companion, call, shownOf, onStrand, restLong, drapeLong, lentLong, verdict, afterBy, numberOf, answerOf, afterOf}
 use Rattle.bench.specs.Table.{strandRows, rowsOf, first}
-use Rattle.bench.proofs.Requests.{passed}
+use Rattle.bench.proofs.Refusals.{passed}
 use Rattle.bench.proofs.Local.{answered}
 use Rattle.bench.proofs.Entered.{entered, call-done}
 use Rattle.bench.proofs.Table.{by-the-table}

@@ -18,7 +18,7 @@ use Rattle.bench.specs.Given.{goodRecord}
 use Rattle.bench.specs.Verdicts.{said, done}
 use Rattle.bench.specs.Calls.{pin, call, pinnedStrand, onStrand, lentLong, verdict, numberOf, answerOf, afterOf}
 use Rattle.bench.specs.Table.{strandRows, rowsOf, first}
-use Rattle.bench.proofs.Requests.{passed}
+use Rattle.bench.proofs.Refusals.{passed}
 use Rattle.bench.proofs.Entered.{entered, call-done}
 use Rattle.bench.proofs.Table.{by-the-table}
 

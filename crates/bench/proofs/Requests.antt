@@ -21,19 +21,11 @@ use Rattle.bench.specs.Areas.{vectorPart, pinPart}
 use Rattle.bench.specs.Strand.{Strand}
 use Rattle.bench.specs.Given.{goodCount, goodSettings, goodSeat}
 use Rattle.bench.specs.Verdicts.{Answer, Verdict, declined, done, decline}
-use Rattle.bench.specs.Calls.{Request, load, unload, pin, look, companion, padded, loadedStrand, emptyStrand, pinnedStrand, onStrand, numberBy}
-use Rattle.bench.specs.Isolation.{pinned, accepts, eventsOf, position, Told, nothing, since, tell, told}
+use Rattle.bench.specs.Calls.{Request, load, unload, pin, look, companion, padded, loadedStrand, emptyStrand, pinnedStrand, onStrand}
+use Rattle.bench.specs.Isolation.{pinned, accepts, eventsOf, Told, nothing, since, tell, told}
 use Rattle.bench.proofs.Padded.{length-padded}
 use Rattle.bench.proofs.SeatParts.{Fine, count-small}
-
--- whether the pin of a component is set
-abbrev pub pinnedIn : ℕ → ℕ → Strand → Bool
-pinnedIn i j x = not (eqb (getD (x .pins) (4 * i + j) 0) 0)
-
--- what is told of the component j of vertex i is so of the strand x
-abbrev pub Tracks : ℕ → ℕ → Told → Strand → Type 0
-Tracks i j nothing x = x .count ≡ 0
-Tracks i j (since g p h) x = i < x .count → j < 3 → (p ≡ pinnedIn i j x) × (h ≡ true → position i j (x .drape) ≡ g)
+use Rattle.bench.proofs.Tracking.{pinnedIn, Tracks}
 
 -- the request a takes the strand x to y
 pub record Next (a : Request) (x y : Strand) : Type 0 where
@@ -57,17 +49,6 @@ unless : {a : Request} {x : Strand} (k : ℕ) {t : Bool} {v : Verdict} → T (le
 unfolding decline
 unless k {t = true} h f = refuses (leb→le 1 k (both-left (leb 1 k) (leb k 11) h)) (leb→le k 11 (both-right (leb 1 k) (leb k 11) h))
 unless k {t = false} h f = f refl
-
--- a chain that ends with 0 has passed its first test
-pub record Passed (k : ℕ) (t : Bool) (v : Verdict) : Type 0 where
-  pub test : t ≡ false
-  pub is : decline k t v ≡ v
-  pub then : numberBy v ≡ 0
-
-pub passed : (k : ℕ) (t : Bool) (v : Verdict) → 1 ≤ k → numberBy (decline k t v) ≡ 0 → Passed k t v
-unfolding decline
-passed k true v h e = absurd (omega arith)
-passed k false v h e = record { test = refl; is = refl; then = e }
 
 -- ---- load
 unpinned : (k : ℕ) → k < pinPart → not (eqb (getD (replicate pinPart 0) k 0) 0) ≡ false

@@ -14,7 +14,7 @@ use Rattle.bench.specs.Given.{goodRecord}
 use Rattle.bench.specs.Verdicts.{said, done}
 use Rattle.bench.specs.Calls.{unload, call, emptyStrand, onStrand, lentLong, verdict, numberOf}
 use Rattle.bench.specs.Table.{strandRows, rowsOf, first}
-use Rattle.bench.proofs.Requests.{passed}
+use Rattle.bench.proofs.Refusals.{passed}
 use Rattle.bench.proofs.Entered.{entered, Lent, lent}
 use Rattle.bench.proofs.Table.{by-the-table}
 

@@ -21,6 +21,9 @@ pub record Strand : Type 0 where
   -- four bytes a vertex: its three position components, then its twist
   pub pins : List ℕ
 
+abbrev pub strand : ℕ → Settings → List Float → List Float → List ℕ → Strand
+strand n g rest drape pins = record { count = n; settings = g; rest = rest; drape = drape; pins = pins }
+
 -- The record and the three areas that live on between calls.
 pub record Bench : Type 0 where
   pub seats : Record

@@ -1,7 +1,7 @@
 -- What comes of a call: its answer, and the strand that it leaves.
 use mathlib.Core.Bool.{Bool, true, false}
 use mathlib.Core.List.{List}
-use Prim.Native.Nat.{ℕ}
+use Prim.Native.Nat.{ℕ, zero, suc}
 use lib.Ieee.{Float}
 use Rattle.bench.specs.declared.answers.StepAnswer.{StepAnswer}
 use Rattle.bench.specs.Strand.{Strand}
@@ -22,3 +22,8 @@ pub data Verdict : Type 0 where
 unfoldable pub decline : ℕ → Bool → Verdict → Verdict
 decline k true v = declined k
 decline k false v = v
+
+-- Declined with k, where k is not 0.
+unfoldable pub declineBy : ℕ → Verdict → Verdict
+declineBy zero v = v
+declineBy (suc k) v = declined (suc k)
