@@ -1,17 +1,16 @@
 //! Finds the folder of the unchanged source and writes the lines that take its files where they lie.
 
-use std::path::{Path, PathBuf};
-use std::{env, fs};
+mod folder;
 
-/// Where the source lies, below a folder `shared`.
-const BELOW_SHARED: &str = "docs/src/del-fem-cpu/src";
+use std::path::PathBuf;
+use std::{env, fs};
 
 const FILES: [&str; 4] = ["spring3", "rod3_darboux", "slice_of_array", "sparse_square"];
 
 fn main() {
     println!("cargo:rerun-if-changed=build.rs");
-    println!("cargo:rerun-if-env-changed=DEL_FEM_SRC");
-    let folder = source_folder();
+    println!("cargo:rerun-if-changed=folder.rs");
+    let folder = folder::source_folder();
     let file = |name: &str| {
         let path = folder.join(name).with_extension("rs");
         assert!(
@@ -38,18 +37,4 @@ fn main() {
         format!("include!({rod3_darboux});\n"),
     )
     .unwrap();
-}
-
-/// `DEL_FEM_SRC`, which if relative counts from the workspace; else the first folder `shared` with
-/// the source beside the workspace or beside a folder that contains it; else the one in /work.
-fn source_folder() -> PathBuf {
-    let package = PathBuf::from(env::var_os("CARGO_MANIFEST_DIR").unwrap());
-    let workspace = package.parent().expect("the package lies in the workspace");
-    if let Some(given) = env::var_os("DEL_FEM_SRC") {
-        return workspace.join(given);
-    }
-    let in_shared = |folder: &Path| folder.join("shared").join(BELOW_SHARED);
-    (workspace.ancestors().skip(1).map(in_shared))
-        .find(|folder| folder.is_dir())
-        .unwrap_or_else(|| in_shared(Path::new("/work")))
 }

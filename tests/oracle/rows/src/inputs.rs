@@ -85,3 +85,45 @@ pub const STRAND: Strand = Strand {
     dt: 0.3,
     pins: [[0, 7, 0, 0], [0, 0, 255, 0], [0, 0, 0, 1]],
 };
+
+/// What the steps of the strand have beside it.
+pub struct Step {
+    pub velocities: [[f64; 3]; 3],
+    /// Apart from the drape everywhere; only its pinned components are read.
+    pub working_copy: [[f64; 3]; 3],
+    pub pins: [[i32; 4]; 3],
+    /// Such that the solves end by it, within a few iterations.
+    pub conv_ratio: f64,
+    pub pick: (usize, [f64; 3]),
+    pub dt: f64,
+}
+
+pub const STEP: Step = Step {
+    velocities: [
+        [0.21, -0.34, 0.17],
+        [-0.43, 0.29, 0.38],
+        [0.52, -0.19, -0.27],
+    ],
+    working_copy: [[0.09, -0.28, 0.46], [1.01, 0.35, 0.66], [1.44, 1.21, 0.57]],
+    pins: [[0, 7, 0, 0], [0, 0, 0, 255], [0, 0, 0, 0]],
+    conv_ratio: 0.03,
+    pick: STRAND.pick,
+    dt: 0.37,
+};
+
+/// Two static steps with no pins; the second has the pick.
+pub const FREE: Step = Step {
+    pins: [[0; 4]; 3],
+    conv_ratio: 0.02,
+    pick: (2, [1.31, 1.38, 0.47]),
+    ..STEP
+};
+
+/// Two dynamic steps; the second has the pick.
+pub const HELD: Step = Step {
+    pins: [[0, 0, 0, 3], [128, 0, 0, 0], [0, 0, 1, 0]],
+    conv_ratio: 0.05,
+    pick: (0, [0.23, -0.36, 0.49]),
+    dt: 0.29,
+    ..STEP
+};

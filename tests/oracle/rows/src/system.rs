@@ -4,10 +4,9 @@
 
 use crate::inputs::STRAND;
 use crate::print::{bits, Rows};
-use del_geo_core::mat4_col_major::{from_diagonal, Mat4ColMajor};
-use del_geo_core::vec3;
-use reference::rod3_darboux::{orthonormalize_framex_for_hair, wdwddw_hair_system, RodSimulator};
-use reference::sparse_square::{conjugate_gradient, set_fix_dof_to_rhs_vector, Matrix};
+use bench::lines::{add_inertia, add_pick, assemble, solved};
+use reference::rod3_darboux::{orthonormalize_framex_for_hair, RodSimulator};
+use reference::sparse_square::{set_fix_dof_to_rhs_vector, Matrix};
 
 type Blocks = Matrix<[f64; 16]>;
 
@@ -26,7 +25,7 @@ pub fn strand(rows: &mut Rows) {
 }
 
 /// The strand, with nothing pinned and no velocities.
-fn simulator() -> RodSimulator<f64> {
+pub fn simulator() -> RodSimulator<f64> {
     let mut rod = RodSimulator {
         vtx2xyz_ini: STRAND.rest.concat(),
         vtx2framex_ini: STRAND.rest_axes.concat(),
@@ -49,18 +48,7 @@ fn simulator() -> RodSimulator<f64> {
 }
 
 fn hair_system(rows: &mut Rows, rod: &mut RodSimulator<f64>) {
-    wdwddw_hair_system(
-        &mut rod.w,
-        &mut rod.dw,
-        rod.ddw.as_ref_mut(),
-        &rod.vtx2xyz_ini,
-        &rod.vtx2xyz_def,
-        rod.stiff_length,
-        &rod.stiff_bendtwist,
-        &rod.vtx2framex_ini,
-        &rod.vtx2framex_def,
-        0.0,
-    );
+    assemble(rod, &STRAND.now.concat());
     rows.function("wdwddw_hair_system");
     rows.input("vtx2xyz_ini", &rod.vtx2xyz_ini);
     rows.input("vtx2xyz_def", &rod.vtx2xyz_def);
@@ -72,8 +60,7 @@ fn hair_system(rows: &mut Rows, rod: &mut RodSimulator<f64>) {
     output_system(rows, rod);
 }
 
-/// `update_static`, lines 1128 to 1145, written out: the source has no function for them.
-/// `check_static` compares.
+/// `check_static` compares with the simulator's own.
 fn pick(rows: &mut Rows, rod: &mut RodSimulator<f64>) {
     let (i_vtx, pos_goal) = STRAND.pick;
     let position = STRAND.now[i_vtx];
@@ -83,27 +70,17 @@ fn pick(rows: &mut Rows, rod: &mut RodSimulator<f64>) {
     rows.input("pos_goal", &pos_goal);
     input_system(rows, rod);
 
-    let stiff = 2.0 * 2.0 * 2.0 * 2.0;
-    rod.ddw.row2val[i_vtx].add_in_place(&from_diagonal(stiff, stiff, stiff, 0.0));
-    let c = vec3::scale(&vec3::sub(&position, &pos_goal), stiff);
-    for (dw, c) in rod.dw[i_vtx].iter_mut().zip(c) {
-        *dw += c;
-    }
+    add_pick(rod, &STRAND.now.concat(), STRAND.pick);
     output_system(rows, rod);
 }
 
-/// `update_dynamic`, lines 1219 to 1225, written out as well. `check_dynamic` compares.
+/// `check_dynamic` compares with the simulator's own.
 fn inertia(rows: &mut Rows, rod: &mut RodSimulator<f64>) {
     rows.function("inertia");
     rows.input("dt", &[STRAND.dt]);
     input_system(rows, rod);
 
-    let c = 1.0 / (STRAND.dt * STRAND.dt);
-    for block in &mut rod.ddw.row2val {
-        for place in [0, 5, 10] {
-            block[place] += c;
-        }
-    }
+    add_inertia(rod, STRAND.dt);
     output_system(rows, rod);
 }
 
@@ -153,20 +130,6 @@ fn solve(rows: &mut Rows, rod: &RodSimulator<f64>, tolerance: f64, limit: usize)
     rows.output_whole("count", history.len());
     rows.output("ratio", &history[history.len() - 1..]);
     rows.outputs("u_vec", &u);
-}
-
-/// The residual, the solution and the ratios of a solve that begins with the gradient.
-fn solved(
-    rod: &RodSimulator<f64>,
-    tolerance: f64,
-    limit: usize,
-) -> (Vec<[f64; 4]>, [[f64; 4]; 3], Vec<f64>) {
-    let mut r = rod.dw.clone();
-    let mut u = [[0.0; 4]; 3];
-    let (mut ap, mut p) = (u, u);
-    let mat = rod.ddw.as_ref();
-    let history = conjugate_gradient(&mut r, &mut u, &mut ap, &mut p, tolerance, limit, mat);
-    (r, u, history)
 }
 
 /// The whole simulator's static step leaves the same matrix, and the residual of its solve.
