@@ -1,5 +1,5 @@
 -- How a step begins: its first refusals, from what the tests of the code have shown of the staged shape and of the system in the work area.
-use mathlib.Core.Path.{_≡_, refl}
+use mathlib.Core.Path.{_≡_}
 use mathlib.Core.Bool.{true, false}
 use mathlib.Core.List.{List}
 use Prim.Native.Nat.{ℕ}

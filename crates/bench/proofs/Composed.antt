@@ -1,5 +1,5 @@
 -- A step is its beginning, its solve and its end: what each part promises of the work area is what the next one takes, so the verdict of the whole is that of the parts.
-use mathlib.Core.Path.{_≡_, refl, sym, ap, _∙_}
+use mathlib.Core.Path.{_≡_, refl, _∙_}
 use mathlib.Core.List.{List}
 use mathlib.Core.Logic.{_≢_}
 use Prim.Native.Nat.{ℕ, zero, suc}
@@ -13,12 +13,12 @@ use Rattle.bench.specs.Strand.{Strand}
 use Rattle.bench.specs.Verdicts.{Verdict, declined, declineBy}
 use Rattle.bench.specs.Step.{begun, solved, finished, Begins}
 
-by-number : (k : ℕ) (v : Verdict) → k ≢ 0 → declineBy k v ≡ declined k
+pub by-number : (k : ℕ) (v : Verdict) → k ≢ 0 → declineBy k v ≡ declined k
 unfolding declineBy
 by-number zero v h = absurd (h refl)
 by-number (suc k) v h = refl
 
-by-none : (k : ℕ) (v : Verdict) → k ≡ 0 → declineBy k v ≡ v
+pub by-none : (k : ℕ) (v : Verdict) → k ≡ 0 → declineBy k v ≡ v
 unfolding declineBy
 by-none k v e = rw e
 

@@ -1,9 +1,9 @@
 -- What a step leaves, in the staged parts of the work area and on the drape: vectors of the definitions against the numbers that the code copies and tests.
 -- Each store is apart from the parts that are read beside it, and a part of 3n numbers read as vectors and written out again is itself.
-use mathlib.Core.Path.{_≡_, refl, sym, ap, _∙_}
+use mathlib.Core.Path.{_≡_, refl, ap, _∙_}
 use mathlib.Core.Bool.{_&&_}
 use mathlib.Core.List.{List}
-use Prim.Native.Nat.{ℕ, _+_, _*_, _≤_}
+use Prim.Native.Nat.{ℕ, _*_, _≤_}
 use native.Mathlib.Omega.{arith}
 use lib.ListN.{length}
 use lib.Ieee.{Float, nan}
@@ -14,7 +14,7 @@ use Rattle.matrix.specs.Parts.{part, put}
 use Rattle.matrix.specs.Rows.{rows3, flat3}
 use Rattle.matrix.specs.Area.{placePositions, placeFrames, placeVelocities, workNumbers}
 use Rattle.matrix.specs.System.{every}
-use Rattle.matrix.specs.HairSystem.{Shape, shape, stagedShape}
+use Rattle.matrix.specs.HairSystem.{Shape, stagedShape}
 use Rattle.matrix.proofs.Parts.{length-table, length-part, length-put, part-put-same, part-put-apart}
 use Rattle.matrix.proofs.RowLaws.{rows3-put, rows3-apart, length-flat3, flat-rows3}
 use Rattle.bench.specs.Areas.{drapePart}

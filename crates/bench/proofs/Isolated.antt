@@ -1,5 +1,5 @@
--- The theorem: a seat alone is a party, and the new bench agrees with itself. The pins are followed through the list, call by call, from the empty seat.
-use mathlib.Core.Path.{_≡_, refl, sym}
+-- The theorem: a seat alone is a party, and the new bench agrees with itself. The pins are followed through the list, call by call, from the empty seat, and what work areas hold does not matter.
+use mathlib.Core.Path.{_≡_, refl, sym, ap, _∙_}
 use mathlib.Core.Bool.{true, false, cond, _&&_}
 use mathlib.Core.List.{List, [], _∷_, _++_}
 use Prim.Native.Nat.{ℕ, _<_}
@@ -10,10 +10,11 @@ use borrow.Author.Tests.{eq-eqb}
 use Rattle.bench.specs.Areas.{seats}
 use Rattle.bench.specs.Strand.{Strand, Bench, newRecord, newBench, strandOf}
 use Rattle.bench.specs.Calls.{Call, answerOf, afterOf}
-use Rattle.bench.specs.Isolation.{on, after, Event, accepts, eventsOf, history, position, Told, nothing, since, told, Kept, Isolation}
+use Rattle.bench.specs.Isolation.{on, solo, after, Event, accepts, eventsOf, history, position, Told, nothing, since, told, Kept, Isolation}
 use Rattle.bench.proofs.SeatParts.{Good, good-new}
 use Rattle.bench.proofs.Tracking.{Tracks}
 use Rattle.bench.proofs.Local.{local, single, tracks-call}
+use Rattle.bench.proofs.Contents.{same-answers, same-after}
 use Rattle.bench.proofs.Lists.{Respects, alike-lists, respected}
 
 -- ---- the pins
@@ -43,10 +44,10 @@ unfolding strandOf newBench newRecord
 empty-new s h = getD-replicate seats s 0 0 h
 
 pub isolation : Isolation
-isolation s cs m =
+isolation s cs ds m e =
     let a = alike-lists (eqb s) (on s) (one-seat s) cs newBench newBench (record { left = good-new; right = good-new; strands = λ t k p. refl }) in
     record {
-      sameAnswers = a .0;
-      sameStrand = a .1 .strands s m (eq-eqb s s refl);
+      sameAnswers = a .0 ∙ sym (same-answers ds (solo (on s) cs) e newBench);
+      sameStrand = a .1 .strands s m (eq-eqb s s refl) ∙ ap (strandOf s) (sym (same-after ds (solo (on s) cs) e newBench));
       pinsHold = λ i j. kept-by i j (told i j nothing (history s cs newBench)) (strandOf s (after cs newBench)) (tracks-list i j s m cs nothing newBench good-new (empty-new s m));
     }

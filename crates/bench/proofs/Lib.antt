@@ -4,8 +4,10 @@ pub mod Left
 pub mod Padded
 pub mod Refusals
 pub mod Tracking
+pub mod StepVerdicts
 pub mod Requests
 pub mod Local
+pub mod Contents
 pub mod Lists
 pub mod Isolated
 pub mod Table
@@ -27,3 +29,7 @@ pub mod Accepting
 pub mod AcceptedKinds
 pub mod Composed
 mod Samples
+mod SamplesTwoSteps
+pub mod PutBack
+pub mod StepCalls
+mod Examples

@@ -2,41 +2,58 @@
 -- Of a good bench refusals 1 and 2 ask only the seat number; the rest is what a request does to a strand.
 use mathlib.Core.Path.{_≡_, refl, sym, ap, _∙_}
 use mathlib.Core.Bool.{Bool, true, false, not, cond, _&&_, or-false, false≢true}
-use mathlib.Core.List.{[]}
+use mathlib.Core.List.{[], _∷_}
 use mathlib.Core.Logic.{_≢_}
 use Prim.Native.Nat.{ℕ, _≤_, _<_, zero-le}
 use native.Mathlib.Omega.{arith}
 use lib.Dec.{eqb, ltb}
 use borrow.Author.Tests.{ltb-true, eqb-true, lt-ltb, eq-eqb, ne-eqb}
 use Rattle.matrix.proofs.Cases.{by-test}
+use Rattle.bench.specs.declared.answers.StepAnswer.the-variants.{Refused}
 use Rattle.bench.specs.Areas.{seats}
+use Rattle.bench.specs.StepNumbers.{stepNumbers}
 use Rattle.bench.specs.Strand.{Strand, Bench, strandOf}
 use Rattle.bench.specs.Given.{goodRecord}
-use Rattle.bench.specs.Verdicts.{Answer, said, Verdict, declined, done, decline}
-use Rattle.bench.specs.Calls.{Request, load, unload, pin, look, companion, Call, refusal, onStrand, lentLong, verdict, numberBy, answerBy, afterBy, numberOf, answerOf, afterOf}
-use Rattle.bench.specs.Isolation.{any, on, accepts, eventsOf, Told, told, Answered, CompanionTells}
+use Rattle.bench.specs.Verdicts.{Answer, said, reported, Verdict, declined, done, decline}
+use Rattle.bench.specs.Calls.{Request, load, unload, pin, look, companion, stepStatic, stepDynamic, workLong, Call, refusal, onStrand, lentLong, verdict, numberBy, answerBy, afterBy, numberOf, answerOf, afterOf}
+use Rattle.bench.specs.Isolation.{any, on, stepped, accepts, eventsOf, Told, told, Answered, CompanionTells}
 use Rattle.bench.proofs.SeatParts.{Good, fine-of, strand-same, strand-other, good-put}
 use Rattle.bench.proofs.Tracking.{Tracks}
 use Rattle.bench.proofs.Requests.{Next, Lawful, lawful}
 
 -- ---- refusals 1 and 2 of a good bench
-lent-good : (b : Bench) → Good b → (a : Request) → lentLong a b ≡ true
+
+-- the work area, where there is one
+abbrev workFits : Request → Bool
+workFits (load n g xs fs) = true
+workFits unload = true
+workFits (pin v c x) = true
+workFits (look k) = true
+workFits (companion k) = true
+workFits (stepStatic p w) = workLong w
+workFits (stepDynamic p dt w) = workLong w
+
+lent-good : (b : Bench) → Good b → (a : Request) → lentLong a b ≡ workFits a
 unfolding lentLong
 lent-good b g (load n h xs fs) = rw (g .long .rest, g .long .drape, g .long .pins)
 lent-good b g unload = rw (g .long .rest, g .long .drape, g .long .pins)
 lent-good b g (pin v c x) = rw (g .long .pins)
 lent-good b g (look k) = rw (g .long .rest, g .long .drape)
 lent-good b g (companion k) = rw (g .long .rest, g .long .drape)
+lent-good b g (stepStatic p w) = rw (g .long .rest, g .long .drape, g .long .pins)
+lent-good b g (stepDynamic p dt w) = rw (g .long .rest, g .long .drape, g .long .pins)
 
-verdict-good : (c : Call) (b : Bench) → Good b → verdict c b ≡ decline 2 (not (ltb (c .seat) seats)) (onStrand (c .request) (strandOf (c .seat) b))
-unfolding verdict decline
+verdict-good : (c : Call) (b : Bench) → Good b → verdict c b ≡ decline 1 (not (workFits (c .request) && true)) (decline 2 (not (ltb (c .seat) seats)) (onStrand (c .request) (strandOf (c .seat) b)))
+unfolding verdict
 verdict-good c b g = rw (lent-good b g (c .request), g .taken)
 
 -- two good benches that agree on the seat
 verdict-alike : (c : Call) (u v : Bench) → Good u → Good v → (c .seat < seats → strandOf (c .seat) u ≡ strandOf (c .seat) v) → verdict c u ≡ verdict c v
 unfolding decline
 verdict-alike c u v g h e =
-    verdict-good c u g ∙ by-test (ltb (c .seat) seats) (λ t. rw t (ap (onStrand (c .request)) (e (ltb-true (c .seat) seats t)))) (λ t. rw t) ∙ sym (verdict-good c v h)
+    verdict-good c u g
+    ∙ ap (decline 1 (not (workFits (c .request) && true))) (by-test (ltb (c .seat) seats) (λ t. rw t (ap (onStrand (c .request)) (e (ltb-true (c .seat) seats t)))) (λ t. rw t))
+    ∙ sym (verdict-good c v h)
 
 -- ---- the seats that a call names
 named : (c : Call) (t : ℕ) → on t c ≡ true → (t ≡ c .seat) × (c .seat < seats)
@@ -141,12 +158,18 @@ pub single : (c : Call) (s t : ℕ) → on s c ≡ true → on t c ≡ true → 
 single c s t e f = named c t f .0 ∙ sym (named c s e .0)
 
 -- ---- what a call tells of its seat is so
+refused-quiet : (k : ℕ) → 1 ≤ k → cond (accepts (reported (Refused k))) (stepped ∷ []) [] ≡ []
+unfolding stepNumbers
+refused-quiet k h = rw (ne-eqb k 0 (omega arith))
+
 quiet : (a : Request) (k : ℕ) → 1 ≤ k → cond (accepts (refusal a k)) (eventsOf a) [] ≡ []
 quiet (load n g xs fs) k h = rw (ne-eqb k 0 (omega arith))
 quiet unload k h = rw (ne-eqb k 0 (omega arith))
 quiet (pin v c x) k h = rw (ne-eqb k 0 (omega arith))
 quiet (look j) k h = refl
 quiet (companion j) k h = rw (ne-eqb k 0 (omega arith))
+quiet (stepStatic p w) k h = refused-quiet k h
+quiet (stepDynamic p dt w) k h = refused-quiet k h
 
 module _ (i j : ℕ) (t : Told) (b : Bench) (g : Good b) where
   tracks-by : (c : Call) {v : Verdict} → Sound c b v → Tracks i j t (strandOf (c .seat) b)

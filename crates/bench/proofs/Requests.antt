@@ -2,7 +2,7 @@
 -- One pass over the requests; a chain of refusals hands on what its tests have shown.
 use mathlib.Core.Path.{_≡_, refl, sym, ap, _∙_}
 use mathlib.Core.Bool.{Bool, true, false, not, cond, _&&_, or-true}
-use mathlib.Core.List.{List, _++_}
+use mathlib.Core.List.{List, [], _∷_, _++_}
 use mathlib.Core.Logic.{_≢_}
 use Prim.Native.Nat.{ℕ, _+_, _-_, _*_, _≤_, _<_}
 use native.Mathlib.Omega.{arith}
@@ -16,16 +16,22 @@ use Rattle.vectors.specs.Finite.{isFinite}
 use Rattle.matrix.specs.System.{every}
 use Rattle.matrix.proofs.Every.{and-left, and-right}
 use Rattle.matrix.proofs.Cases.{by-equality}
+use Rattle.bench.specs.declared.answers.StepAnswer.the-variants.{Accepted}
 use Rattle.bench.specs.declared.seats.Settings.{Settings}
 use Rattle.bench.specs.Areas.{vectorPart, pinPart}
 use Rattle.bench.specs.Strand.{Strand}
+use Rattle.bench.specs.StepNumbers.{stepNumbers}
 use Rattle.bench.specs.Given.{goodCount, goodSettings, goodSeat}
-use Rattle.bench.specs.Verdicts.{Answer, Verdict, declined, done, decline}
-use Rattle.bench.specs.Calls.{Request, load, unload, pin, look, companion, padded, loadedStrand, emptyStrand, pinnedStrand, onStrand}
-use Rattle.bench.specs.Isolation.{pinned, accepts, eventsOf, Told, nothing, since, tell, told}
+use Rattle.bench.specs.Verdicts.{Answer, reported, Verdict, declined, done, decline}
+use Rattle.bench.specs.Step.{withDrape, updateStatic, updateDynamic}
+use Rattle.bench.specs.Accepted.{Whole, StepAccepts}
+use Rattle.bench.specs.Calls.{Request, load, unload, pin, look, companion, stepStatic, stepDynamic, padded, loadedStrand, emptyStrand, pinnedStrand, onStrand}
+use Rattle.bench.specs.Isolation.{pinned, stepped, accepts, eventsOf, Told, nothing, since, tell, told}
 use Rattle.bench.proofs.Padded.{length-padded}
 use Rattle.bench.proofs.SeatParts.{Fine, count-small}
-use Rattle.bench.proofs.Tracking.{pinnedIn, Tracks}
+use Rattle.bench.proofs.Tracking.{pinnedIn, Tracks, accepted-tracks, accepted-fine}
+use Rattle.bench.proofs.StepVerdicts.{StepVerdict, refused, accepted, static-verdict, dynamic-verdict}
+use Rattle.bench.proofs.AcceptedKinds.{static-accepts, dynamic-accepts}
 
 -- the request a takes the strand x to y
 pub record Next (a : Request) (x y : Strand) : Type 0 where
@@ -132,6 +138,14 @@ pin-next v c b x h f =
 stays : (x : Strand) (a : Request) → ((i j : ℕ) (t : Told) → told i j t (eventsOf a) ≡ t) → Fine x → Next a x x
 stays x a h f = record { fine = f; tracks = λ i j t q. rw (h i j t) q }
 
+-- ---- a step
+step-lawful : (a : Request) (x : Strand) → eventsOf a ≡ stepped ∷ [] → (v : Verdict) → StepVerdict x v → ((u : Strand) (e r : Float) (k : ℕ) → Whole x → v ≡ done (reported (Accepted e r k)) u → StepAccepts x u e r) → Lawful a x v
+unfolding told stepNumbers
+step-lawful a x h v (refused {k} p q) f = refuses {k = k} (omega arith) q
+step-lawful a x h v (accepted e r k d) f =
+    takes refl
+    (λ g. let u = withDrape x d in let s = f u e r k (record { count = count-small x g; drape = g .drape }) refl in record { fine = accepted-fine x u e r s g; tracks = λ i j t q. rw h (accepted-tracks x u e r s i j t q) })
+
 pub lawful : (a : Request) (x : Strand) → Lawful a x (onStrand a x)
 unfolding onStrand told
 lawful (load n g xs fs) x = unless 3 tt λ _. unless 4 tt λ h. unless 6 tt λ k. unless 7 tt λ _. takes refl λ _. load-next n g xs fs x (sized n xs fs h) k
@@ -139,3 +153,5 @@ lawful unload x = unless 3 tt λ _. takes refl λ _. unload-next x
 lawful (pin v c b) x = unless 3 tt λ _. unless 5 tt λ h. takes refl (pin-next v c b x h)
 lawful (look k) x = unless 3 tt λ _. unless 5 tt λ _. takes refl (stays x (look k) (λ i j t. refl))
 lawful (companion k) x = unless 3 tt λ _. unless 5 tt λ _. takes refl (stays x (companion k) (λ i j t. refl))
+lawful (stepStatic p w) x = unless 3 tt λ _. unless 5 tt λ _. unless 6 tt λ _. step-lawful (stepStatic p w) x refl (updateStatic x p) (static-verdict x p) (λ u e r k f q. static-accepts x u p e r k f q)
+lawful (stepDynamic p dt w) x = unless 3 tt λ _. unless 5 tt λ _. unless 6 tt λ _. step-lawful (stepDynamic p dt w) x refl (updateDynamic x p dt) (dynamic-verdict x p dt) (λ u e r k f q. dynamic-accepts x u p dt e r k f q)

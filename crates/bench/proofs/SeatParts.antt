@@ -1,7 +1,7 @@
 -- Reading and writing a seat's strand: what was written is read back, and the other seats' strands stay, because the parts of an area share no index.
 -- A bench is good where its areas have their lengths and every seat passes; writing a fine strand keeps it so.
 use mathlib.Core.Path.{_≡_, refl, _∙_}
-use mathlib.Core.Bool.{true}
+use mathlib.Core.Bool.{true, false}
 use mathlib.Core.List.{List}
 use mathlib.Core.Logic.{_≢_}
 use Prim.Native.Nat.{ℕ, _+_, _*_, _≤_, _<_}
@@ -63,6 +63,10 @@ pub record Fine (x : Strand) : Type 0 where
 pub small-seat : (n : ℕ) (g : Settings) → goodSeat n g ≡ true → n ≤ 32
 unfolding goodSeat
 small-seat n g h = by-test (eqb n 0) (λ e. omega (arith, eqb-true n 0 e)) (λ e. leb-true n 32 (and-right (leb 2 n) (leb n 32) (and-left (goodCount n) (goodSettings g) (rw e at h))))
+
+pub taken-seat : (n : ℕ) (g : Settings) → goodSeat n g ≡ true → eqb n 0 ≡ false → goodCount n ≡ true
+unfolding goodSeat
+taken-seat n g h e = and-left (goodCount n) (goodSettings g) (rw e at h)
 
 pub count-small : (x : Strand) → Fine x → x .count ≤ 32
 count-small x f = small-seat (x .count) (x .settings) (f .seat)

@@ -1,7 +1,7 @@
 -- The shape that a step stages in the work area, read back as vectors: what was stored there, and the parts stored later are apart from it.
-use mathlib.Core.Path.{_≡_, sym, ap, _∙_}
+use mathlib.Core.Path.{_≡_, _∙_}
 use mathlib.Core.List.{List}
-use Prim.Native.Nat.{ℕ, _+_, _*_, _≤_}
+use Prim.Native.Nat.{ℕ, _*_, _≤_}
 use native.Mathlib.Omega.{arith}
 use lib.ListN.{length}
 use lib.Ieee.{Float}
@@ -13,7 +13,7 @@ use Rattle.matrix.specs.HairSystem.{shape, stagedShape}
 use Rattle.matrix.proofs.Parts.{length-table, length-part, length-put}
 use Rattle.matrix.proofs.RowLaws.{rows3-put, rows3-apart, length-flat3}
 use Rattle.matrix.proofs.Shapes.{rows3-part, rows3-stored}
-use Rattle.bench.specs.Areas.{restPart, drapePart, vectorPart}
+use Rattle.bench.specs.Areas.{drapePart, vectorPart}
 use Rattle.bench.specs.Areas as areas
 use Rattle.bench.specs.Update.{orthonormalizeFramexForHair}
 use Rattle.bench.specs.Step.{framesIn, shapeIn, predictedCopy}

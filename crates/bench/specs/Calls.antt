@@ -1,19 +1,24 @@
 -- The calls on the bench: what each answers, and the bench after it.
-use mathlib.Core.Bool.{Bool, not, cond, _&&_}
+use mathlib.Core.Bool.{Bool, true, not, cond, _&&_}
 use mathlib.Core.List.{List, [], _∷_, _++_}
 use Prim.Native.Nat.{ℕ, _+_, _-_, _*_}
 use lib.Dec.{eqb, ltb}
 use lib.ListN.{length, set, replicate}
-use lib.Ieee.{Float}
+use lib.Ieee.{Float, lt}
 use Rattle.vectors.specs.Number.{plusZero}
-use Rattle.vectors.specs.Finite.{isFinite}
+use Rattle.vectors.specs.Finite.{isFinite, vec3IsFinite}
 use Rattle.matrix.specs.Parts.{part}
 use Rattle.matrix.specs.Rows.{rows3}
+use Rattle.matrix.specs.Area.{workNumbers}
 use Rattle.matrix.specs.System.{every}
+use Rattle.bench.specs.declared.answers.Pick.{Pick}
+use Rattle.bench.specs.declared.answers.Pick.the-variants.{Nothing, At}
+use Rattle.bench.specs.declared.answers.StepAnswer.the-variants.{Refused}
 use Rattle.bench.specs.declared.seats.Settings.{Settings}
 use Rattle.bench.specs.Areas.{seats, restNumbers, drapeNumbers, pinBytes, restPart, drapePart, pinPart, vectorPart}
 use Rattle.bench.specs.Strand.{Strand, Bench, settingsOf, strandOf, putStrand}
-use Rattle.bench.specs.Verdicts.{Answer, said, handed, Verdict, declined, done, decline}
+use Rattle.bench.specs.Verdicts.{Answer, said, handed, reported, Verdict, declined, done, decline}
+use Rattle.bench.specs.Step.{pickFits, updateStatic, updateDynamic}
 use Rattle.bench.specs.Given.{goodCount, goodSettings, goodRecord, edgesFit}
 
 -- What is asked of a seat, with all that the call gives.
@@ -28,6 +33,9 @@ pub data Request : Type 0 where
   look : (kind : ℕ) → Request
   -- the number that the look of this kind is refused with, 0 for none
   companion : (kind : ℕ) → Request
+  -- one step of the strand, with the numbers that the lent work area holds
+  stepStatic : (pick : Pick) (work : List Float) → Request
+  stepDynamic : (pick : Pick) (dt : Float) (work : List Float) → Request
 
 pub record Call : Type 0 where
   pub seat : ℕ
@@ -47,6 +55,8 @@ refusal unload k = said k
 refusal (pin v c x) k = said k
 refusal (look j) k = handed []
 refusal (companion j) k = said k
+refusal (stepStatic p w) k = reported (Refused k)
+refusal (stepDynamic p dt w) k = reported (Refused k)
 
 -- l, and zeros up to the numbers of 32 vertices: "every entry past n becomes 0"
 unfoldable pub padded : List Float → List Float
@@ -77,7 +87,15 @@ shownOf kind t = cond (ltb kind 2) (part (t .rest) (vectorPart * kind) (3 * t .c
 abbrev pub isEmpty : Strand → Bool
 isEmpty t = eqb (t .count) 0
 
--- "When the bench declines", 3 to 7
+-- "a given number not finite" and "dt not above 0" are declined with 6
+unfoldable pub goalFits : Pick → Bool
+goalFits Nothing = true
+goalFits (At v goal) = vec3IsFinite goal
+
+abbrev pub timeFits : Float → Bool
+timeFits dt = isFinite dt && lt plusZero dt
+
+-- "When the bench declines", 3 to 11; a step's 7 to 11 are in its own chain
 unfoldable pub onStrand : Request → Strand → Verdict
 onStrand (load n g xs fs) t =
     decline 3 (not (isEmpty t))
@@ -88,6 +106,8 @@ onStrand unload t = decline 3 (isEmpty t) (done (said 0) emptyStrand)
 onStrand (pin v c x) t = decline 3 (isEmpty t) (decline 5 (not (ltb v (t .count) && ltb c 4)) (done (said 0) (pinnedStrand v c x t)))
 onStrand (look k) t = decline 3 (isEmpty t) (decline 5 (not (ltb k 5)) (done (handed (shownOf k t)) t))
 onStrand (companion k) t = decline 3 (isEmpty t) (decline 5 (not (ltb k 5)) (done (said 0) t))
+onStrand (stepStatic p w) t = decline 3 (isEmpty t) (decline 5 (not (pickFits (t .count) p)) (decline 6 (not (goalFits p)) (updateStatic t p)))
+onStrand (stepDynamic p dt w) t = decline 3 (isEmpty t) (decline 5 (not (pickFits (t .count) p)) (decline 6 (not (goalFits p && timeFits dt)) (updateDynamic t p dt)))
 
 abbrev pub restLong : Bench → Bool
 restLong b = eqb (length (b .rest)) restNumbers
@@ -98,6 +118,9 @@ drapeLong b = eqb (length (b .drape)) drapeNumbers
 abbrev pub pinsLong : Bench → Bool
 pinsLong b = eqb (length (b .pins)) pinBytes
 
+abbrev pub workLong : List Float → Bool
+workLong w = eqb (length w) workNumbers
+
 -- Whether the areas that a request is lent have their lengths.
 unfoldable pub lentLong : Request → Bench → Bool
 lentLong (load n g xs fs) b = restLong b && drapeLong b && pinsLong b
@@ -105,6 +128,8 @@ lentLong unload b = restLong b && drapeLong b && pinsLong b
 lentLong (pin v c x) b = pinsLong b
 lentLong (look k) b = restLong b && drapeLong b
 lentLong (companion k) b = restLong b && drapeLong b
+lentLong (stepStatic p w) b = restLong b && drapeLong b && pinsLong b && workLong w
+lentLong (stepDynamic p dt w) b = restLong b && drapeLong b && pinsLong b && workLong w
 
 -- 1 and 2 before those of the strand; 1 looks at the whole record
 unfoldable pub verdict : Call → Bench → Verdict

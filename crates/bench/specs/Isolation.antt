@@ -1,17 +1,18 @@
 -- No seat's strand can touch another's: what is claimed of every list of calls from the new bench.
 use mathlib.Core.Path.{_≡_}
 use mathlib.Core.Bool.{Bool, true, false, not, cond, _&&_, _||_}
-use mathlib.Core.List.{List, [], _∷_, _++_}
+use mathlib.Core.List.{List, [], _∷_, _++_, map}
 use mathlib.Core.Logic.{_≢_}
 use Prim.Native.Nat.{ℕ, _+_, _*_, _≤_, _<_}
 use lib.Dec.{eqb}
-use lib.ListN.{getD}
+use lib.ListN.{length, getD, replicate}
 use lib.Ieee.{Float, nan}
+use Rattle.vectors.specs.Number.{plusZero}
 use Rattle.bench.specs.Areas.{seats}
 use Rattle.bench.specs.Strand.{Bench, newBench, strandOf}
 use Rattle.bench.specs.Verdicts.{Answer, said, handed, reported}
 use Rattle.bench.specs.StepNumbers.{stepNumbers}
-use Rattle.bench.specs.Calls.{Request, load, unload, pin, look, companion, Call, names, refusal, numberOf, answerOf, afterOf}
+use Rattle.bench.specs.Calls.{Request, load, unload, pin, look, companion, stepStatic, stepDynamic, Call, call, names, refusal, numberOf, answerOf, afterOf}
 
 -- ---- lists of calls
 
@@ -46,6 +47,25 @@ unfoldable pub after : List Call → Bench → Bench
 after [] b = b
 after (c ∷ cs) b = after cs (afterOf c b)
 
+-- ---- what a lent work area holds
+
+-- The call with zeros in the work area that it lends, as many as it held.
+abbrev pub bareRequest : Request → Request
+bareRequest (load n g xs fs) = load n g xs fs
+bareRequest unload = unload
+bareRequest (pin v c x) = pin v c x
+bareRequest (look k) = look k
+bareRequest (companion k) = companion k
+bareRequest (stepStatic p w) = stepStatic p (replicate (length w) plusZero)
+bareRequest (stepDynamic p dt w) = stepDynamic p dt (replicate (length w) plusZero)
+
+abbrev pub bare : Call → Call
+bare c = call (c .seat) (bareRequest (c .request))
+
+-- "What the work area holds is free at each call": the same calls, but for that.
+abbrev pub SameCalls : List Call → List Call → Type 0
+SameCalls cs ds = map bare cs ≡ map bare ds
+
 -- ---- what the calls and their answers tell of one position component
 
 -- What an accepted call did to its seat.
@@ -55,6 +75,7 @@ pub data Event : Type 0 where
   stepped : Event
   unloaded : Event
 
+-- Whether an answer is that of an accepted call; a look's tells nothing of it, and a look is no event.
 abbrev pub accepts : Answer → Bool
 accepts (said k) = eqb k 0
 accepts (handed l) = true
@@ -66,6 +87,8 @@ eventsOf unload = unloaded ∷ []
 eventsOf (pin v c x) = pinned v c x ∷ []
 eventsOf (look k) = []
 eventsOf (companion k) = []
+eventsOf (stepStatic p w) = stepped ∷ []
+eventsOf (stepDynamic p dt w) = stepped ∷ []
 
 -- The events of seat s, in order.
 unfoldable pub history : ℕ → List Call → Bench → List Event
@@ -99,19 +122,24 @@ Kept nothing x = ⊥
 Kept (since g p true) x = x ≡ g
 Kept (since g p false) x = Unit
 
--- ---- the claim, of seat s and any list of calls cs, whose other calls are on other seats
+-- ---- the claim, of seat s, any list of calls cs and its solo run ds
 
-pub record Isolated (s : ℕ) (cs : List Call) : Type 0 where
+pub record Isolated (s : ℕ) (cs ds : List Call) : Type 0 where
   -- the seat's calls are answered as if it were alone
-  pub sameAnswers : heard (on s) cs newBench ≡ answers (solo (on s) cs) newBench
+  pub sameAnswers : heard (on s) cs newBench ≡ answers ds newBench
   -- its strand is in the end what it would be alone
-  pub sameStrand : strandOf s (after cs newBench) ≡ strandOf s (after (solo (on s) cs) newBench)
+  pub sameStrand : strandOf s (after cs newBench) ≡ strandOf s (after ds newBench)
   -- a position component that was pinned at every step since the load is where the load put it
   pub pinsHold : (i j : ℕ) → i < strandOf s (after cs newBench) .count → j < 3
       → Kept (told i j nothing (history s cs newBench)) (position i j (strandOf s (after cs newBench) .drape))
 
+-- Of every list and every seat; what the work areas hold is free in both lists, call by call.
 abbrev pub Isolation : Type 0
-Isolation = (s : ℕ) (cs : List Call) → s < seats → Isolated s cs
+Isolation = (s : ℕ) (cs ds : List Call) → s < seats → SameCalls ds (solo (on s) cs) → Isolated s cs ds
+
+-- What a lent work area holds changes no answer and nothing on the bench.
+abbrev pub ContentsDoNotMatter : Type 0
+ContentsDoNotMatter = (c d : Call) (b : Bench) → bare c ≡ bare d → (answerOf c b ≡ answerOf d b) × (afterOf c b ≡ afterOf d b)
 
 -- ---- beside it, of every call on every bench
 

@@ -10,5 +10,8 @@ pub mod Step
 pub mod Isolation
 pub mod Accepted
 pub mod Table
+pub mod Asked
 pub mod Opened
 pub mod SamplesStep
+pub mod SamplesTwoSteps
+pub mod Examples

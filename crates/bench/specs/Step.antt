@@ -19,7 +19,6 @@ use Rattle.matrix.specs.Fixed.{withPins}
 use Rattle.matrix.specs.ConjugateGradient.{Outcome, conjugateGradient}
 use Rattle.bench.specs.declared.answers.Pick.{Pick}
 use Rattle.bench.specs.declared.answers.Pick.the-variants.{Nothing, At}
-use Rattle.bench.specs.declared.answers.StepAnswer.{StepAnswer}
 use Rattle.bench.specs.declared.answers.StepAnswer.the-variants.{Accepted, Refused}
 use Rattle.bench.specs.declared.seats.Settings.{Settings}
 use Rattle.bench.specs.Areas.{placePositions, placeFrames, placeVelocities, placeWorkingCopy}
@@ -163,7 +162,7 @@ abbrev pub drapeBy : List Float → Verdict → List Float
 drapeBy d (declined k) = d
 drapeBy d (done a t) = t .drape
 
--- "vertex at or above n" is declined with 5: no pick, or one of the n vertices
+-- No pick, or one of the n vertices: what refusal 5 asks.
 unfoldable pub pickFits : ℕ → Pick → Bool
 pickFits n Nothing = true
 pickFits n (At v goal) = ltb v n

@@ -1,7 +1,6 @@
 -- With no pick nothing is done.
 use borrow.Author.Needs.{needs}
 use mathlib.Core.Path.{refl}
-use native.Mathlib.Omega.{arith}
 use Rattle.matrix.specs.HairSystem.{stagedShape}
 use Rattle.bench.specs.Step.{withPicked, pickFits}
 use borrow.Author.Tests.{ltb-true}

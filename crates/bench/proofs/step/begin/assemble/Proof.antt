@@ -1,9 +1,7 @@
 -- The rest shape is read from the two halves of its part.
 use borrow.Author.Needs.{needs}
-use mathlib.Core.Path.{refl, _∙_, ap}
-use native.Mathlib.Omega.{arith}
+use mathlib.Core.Path.{refl, _∙_}
 use Rattle.matrix.specs.Parts.{part}
-use Rattle.matrix.specs.HairSystem.{Shape}
 use Rattle.matrix.proofs.Shapes.{shape-kept}
 use Rattle.bench.specs.Step.{energyOf, pickedSystem}
 use Rattle.bench.proofs.Staging.{rest-halves}

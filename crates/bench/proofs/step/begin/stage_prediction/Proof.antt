@@ -1,10 +1,8 @@
 -- The working copy is stored first, then the frames, which are rewritten along it.
 use borrow.Author.Needs.{needs}
-use mathlib.Core.Path.{refl}
 use Prim.Native.Nat.{_*_}
 use native.Mathlib.Nat.{add-sub-cancel-left}
 use Rattle.matrix.specs.Parts.{part}
-use Rattle.matrix.proofs.Parts.{length-table}
 use Rattle.bench.specs.Areas.{placeFrames}
 use Rattle.bench.specs.Step.{predictedCopy, predictedShape}
 use Rattle.bench.proofs.Staging.{staged-prediction, length-predicted}
