@@ -5,8 +5,10 @@ use elements::rod3_darboux::Rod;
 use elements::spring3;
 use vectors::vec3::Vec3;
 
+mod moves;
 mod seats;
 mod stay;
+mod steps;
 mod strands;
 
 fn main() {
@@ -21,6 +23,7 @@ fn main() {
     show_stretch();
     show_darboux();
     seats::show();
+    steps::show();
 }
 
 // The root of x beside x.
