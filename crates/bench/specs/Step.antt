@@ -124,7 +124,7 @@ predictedCopy dt n pins d = table n (λ i. predictedVec3 dt pins (4 * i) (vec3At
 unfoldable pub predictedShape : Float → ℕ → List ℕ → List Float → Shape
 predictedShape dt n pins d = let xyz = predictedCopy dt n pins d in shape xyz (orthonormalizeFramexForHair n xyz (framesIn n d))
 
--- "Unpinned velocity = (working copy - drape)/dt"; a pinned one is kept: lines 1253 to 1261
+-- "Unpinned velocity = (working copy - drape)/dt"; a pinned one is kept: lines 1252 to 1262
 unfoldable pub velocityAfter : Float → ℕ → Float → Float → Float → Float
 velocityAfter dt pin velocity copy position = unlessPinned pin velocity ((copy ⊖ position) ⊘ dt)
 

@@ -26,7 +26,7 @@ unfoldable pub vec3UnlessPinned : List ℕ → ℕ → Vec3 → Vec3 → Vec3
 vec3UnlessPinned pins o old new =
     vec3 (unlessPinned (getD pins o 0) (old .x) (new .x)) (unlessPinned (getD pins (o + 1) 0) (old .y) (new .y)) (unlessPinned (getD pins (o + 2) 0) (old .z) (new .z))
 
--- The edge from vertex i: lines 735 and 850.
+-- The edge from vertex i: lines 736 and 852.
 abbrev pub edgeAt : List Vec3 → ℕ → Vec3
 edgeAt xyz i = vec3Sub (vec3At xyz (i + 1)) (vec3At xyz i)
 
@@ -42,22 +42,22 @@ orthonormalizeFramexForHair n xyz framex = table n (λ i. cond (hasEdge n i) (ve
 abbrev pub rowAt : List Vec4 → ℕ → Vec4
 rowAt u i = getD u i zeroRow
 
--- line 851 to 855: how the edge changes, by the rows of its two ends
+-- lines 853 to 857: how the edge changes, by the rows of its two ends
 abbrev pub edgeChange : Vec4 → Vec4 → Vec3
 edgeChange a b = vec3 (a .x ⊖ b .x) (a .y ⊖ b .y) (a .z ⊖ b .z)
 
--- lines 848 to 859: the frame of the edge from vertex i, turned with the edge, from the positions as they were
+-- lines 849 to 861: the frame of the edge from vertex i, turned with the edge, from the positions as they were
 unfoldable pub turnAt : Shape → List Vec4 → ℕ → TurnedFrame
 turnAt s u i = updatedRodFrame (vec3At (s .frames) i) (edgeAt (s .positions) i) (edgeChange (rowAt u i) (rowAt u (i + 1))) (neg (rowAt u i .w))
 
--- lines 844 to 847: an edge whose twist is not pinned is turned
+-- lines 845 to 848: an edge whose twist is not pinned is turned
 unfoldable pub isTurned : ℕ → List ℕ → ℕ → Bool
 isTurned n pins i = hasEdge n i && eqb (getD pins (4 * i + 3) 0) 0
 
 unfoldable pub turnedFrames : ℕ → List ℕ → Shape → List Vec4 → List Vec3
 turnedFrames n pins s u = table n (λ i. cond (isTurned n pins i) (turnAt s u i .x) (vec3At (s .frames) i))
 
--- lines 867 to 874: an unpinned position moves against the solution
+-- lines 868 to 875: an unpinned position moves against the solution
 unfoldable pub movedAt : List ℕ → List Vec3 → List Vec4 → ℕ → Vec3
 movedAt pins xyz u i =
     let p = vec3At xyz i in
