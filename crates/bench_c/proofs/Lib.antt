@@ -1,0 +1,2 @@
+-- The laws behind the exported functions.
+pub mod Looked

@@ -1,0 +1,2 @@
+-- What the exported contracts cite beside the bench's own definitions.
+pub mod Exported

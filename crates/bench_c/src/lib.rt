@@ -1,0 +1,234 @@
+// The bench for programs in C and Rust: its calls, with picks and answers as numbers.
+use bench::answers::Pick;
+use bench::answers::StepAnswer;
+use bench::areas;
+use bench::load;
+use bench::look;
+use bench::pin;
+use bench::seats::Record;
+use bench::seats::Settings;
+use bench::steps;
+use bench::unload;
+use vectors::vec3::Vec3;
+ghost use mathlib.Core.Path.{_≡_};
+ghost use mathlib.Core.List.{List};
+ghost use Prim.Native.Nat.{ℕ};
+ghost use lib.Ieee.{Float};
+ghost use Rattle.roots.specs.Sqrt.{sqrtOf};
+ghost use Rattle.vectors.specs.Vec3.{vec3};
+ghost use Rattle.bench.specs.Strand.{benchOf};
+ghost use Rattle.matrix.specs.Parts.{part};
+ghost use Rattle.bench.specs.Verdicts.{said, handed, reported};
+ghost use Rattle.bench.specs.Calls.{load, unload, pin, look, companion, stepStatic, stepDynamic, call, numberOf, answerOf, afterOf};
+ghost use Rattle.bench.specs.Asked.{LeavesWork};
+ghost use Rattle.bench_c.specs.Exported.{pickOf, reportOf, lookedAt, placeOf};
+
+// A step's answer: the number that it is refused with, 0 for none, and its numbers.
+#[repr(C)]
+pub struct Report {
+    pub number: u8,
+    pub energy: f64,
+    pub count: usize,
+    pub ratio: f64,
+}
+
+// A part of an area: its first place, and how many numbers it has.
+#[repr(C)]
+pub struct Place {
+    pub at: usize,
+    pub count: usize,
+}
+
+// No pick where the flag is 0.
+fn picked(flag: u8, vertex: usize, goal: Vec3) -> Pick
+    ensures { λ r. ⌜ r ≡ pickOf flag vertex goal ⌝ }
+{
+    if flag == 0 {
+        return Pick::Nothing;
+    }
+    Pick::At(vertex, goal)
+}
+
+fn told(a: StepAnswer) -> Report
+    ensures { λ r. ⌜ r ≡ reportOf (reported a) ⌝ }
+{
+    match a {
+        StepAnswer::Accepted {
+            energy,
+            ratio,
+            count,
+        } => Report {
+            number: 0,
+            energy,
+            count,
+            ratio,
+        },
+        StepAnswer::Refused(k) => Report {
+            number: k,
+            energy: 0.0,
+            count: 0,
+            ratio: 0.0,
+        },
+    }
+}
+
+// A strand is laid on a seat; the record changes where it stands.
+#[no_mangle]
+pub extern "C" fn hairbench_load(
+    record: &mut Record,
+    rest: &mut [f64],
+    drape: &mut [f64],
+    pins: &mut [u8],
+    seat: usize,
+    n: usize,
+    settings: Settings,
+    positions: &[f64],
+    frames: &[f64],
+) -> u8
+    ensures { λ r. ⌜ said r ≡ answerOf (call seat (load n settings (now (positions .entry)) (now (frames .entry)))) (benchOf (now («record» .entry)) (now (rest .entry)) (now (drape .entry)) (now (pins .entry))) ⌝ }
+    ensures { λ _. ⌜ benchOf (now («record» .exit)) (now (rest .exit)) (now (drape .exit)) (now (pins .exit)) ≡ afterOf (call seat (load n settings (now (positions .entry)) (now (frames .entry)))) (benchOf (now («record» .entry)) (now (rest .entry)) (now (drape .entry)) (now (pins .entry))) ⌝ }
+{
+    let out = load::load_value(
+        *record,
+        rest,
+        drape,
+        pins,
+        seat,
+        n,
+        settings,
+        positions,
+        frames,
+    );
+    *record = out.seats;
+    out.refusal
+}
+
+// The seat is emptied.
+#[no_mangle]
+pub extern "C" fn hairbench_unload(
+    record: &mut Record,
+    rest: &mut [f64],
+    drape: &mut [f64],
+    pins: &mut [u8],
+    seat: usize,
+) -> u8
+    ensures { λ r. ⌜ said r ≡ answerOf (call seat unload) (benchOf (now («record» .entry)) (now (rest .entry)) (now (drape .entry)) (now (pins .entry))) ⌝ }
+    ensures { λ _. ⌜ benchOf (now («record» .exit)) (now (rest .exit)) (now (drape .exit)) (now (pins .exit)) ≡ afterOf (call seat unload) (benchOf (now («record» .entry)) (now (rest .entry)) (now (drape .entry)) (now (pins .entry))) ⌝ }
+{
+    let out = unload::unload_value(*record, rest, drape, pins, seat);
+    *record = out.seats;
+    out.refusal
+}
+
+#[no_mangle]
+pub extern "C" fn hairbench_pin(
+    record: Record,
+    pins: &mut [u8],
+    seat: usize,
+    vertex: usize,
+    component: usize,
+    byte: u8,
+) -> u8
+    ensures { λ k. ⌜ ((rest drape : List Float) → said k ≡ answerOf (call seat (pin vertex component byte)) (benchOf «record» rest drape (now (pins .entry)))) ⌝ }
+    ensures { λ _. ⌜ ((rest drape : List Float) → benchOf «record» rest drape (now (pins .exit)) ≡ afterOf (call seat (pin vertex component byte)) (benchOf «record» rest drape (now (pins .entry)))) ⌝ }
+{
+    pin::pin(record, pins, seat, vertex, component, byte)
+}
+
+#[no_mangle]
+pub extern "C" fn hairbench_companion(
+    record: Record,
+    rest: &[f64],
+    drape: &[f64],
+    seat: usize,
+    kind: usize,
+) -> u8
+    ensures { λ k. ⌜ ((pins : List ℕ) → said k ≡ answerOf (call seat (companion kind)) (benchOf «record» (now (rest .entry)) (now (drape .entry)) pins)) ⌝ }
+    ensures { λ _. ⌜ ((pins : List ℕ) → benchOf «record» (now (rest .entry)) (now (drape .entry)) pins ≡ afterOf (call seat (companion kind)) (benchOf «record» (now (rest .entry)) (now (drape .entry)) pins)) ⌝ }
+{
+    look::companion(record, rest, drape, seat, kind)
+}
+
+// Where the numbers of a look stand, and how many they are; none where it is refused. Kinds 0 and 1 are
+// of the rest area, the others of the drape area.
+#[no_mangle]
+pub extern "C" fn hairbench_look(
+    record: Record,
+    rest: &[f64],
+    drape: &[f64],
+    seat: usize,
+    kind: usize,
+) -> Place
+    ensures { λ r. ⌜ ((pins : List ℕ) → r ≡ placeOf seat kind (benchOf «record» (now (rest .entry)) (now (drape .entry)) pins)) ⌝ }
+    ensures { λ r. ⌜ ((pins : List ℕ) → handed (part (lookedAt kind (now (rest .entry)) (now (drape .entry))) (r .at) (r .count)) ≡ answerOf (call seat (look kind)) (benchOf «record» (now (rest .entry)) (now (drape .entry)) pins)) ⌝ }
+{
+    let k = look::companion(record, rest, drape, seat, kind);
+    if k != 0 {
+        return Place { at: 0, count: 0 };
+    }
+    let counts = record.counts;
+    let count = 3 * counts[seat];
+    if kind < 2 {
+        let at = areas::REST_PART * seat + areas::VECTOR_PART * kind;
+        return Place { at, count };
+    }
+    let at = areas::DRAPE_PART * seat + areas::VECTOR_PART * (kind - 2);
+    Place { at, count }
+}
+
+// The root of x.
+#[no_mangle]
+pub extern "C" fn hairbench_sqrt(x: f64) -> f64
+    ensures { λ r. ⌜ r ≡ sqrtOf x ⌝ }
+{
+    roots::sqrt(x)
+}
+
+// A static step; no pick where `flag` is 0.
+#[no_mangle]
+pub extern "C" fn hairbench_step_static(
+    record: Record,
+    rest: &[f64],
+    drape: &mut [f64],
+    pins: &[u8],
+    work: &mut [f64],
+    seat: usize,
+    flag: u8,
+    vertex: usize,
+    x: f64,
+    y: f64,
+    z: f64,
+) -> Report
+    ensures { λ r. ⌜ r ≡ reportOf (answerOf (call seat (stepStatic (pickOf flag vertex (vec3 x y z)) (now (work .entry)))) (benchOf «record» (now (rest .entry)) (now (drape .entry)) (now (pins .entry)))) ⌝ }
+    ensures { λ _. ⌜ benchOf «record» (now (rest .entry)) (now (drape .exit)) (now (pins .entry)) ≡ afterOf (call seat (stepStatic (pickOf flag vertex (vec3 x y z)) (now (work .entry)))) (benchOf «record» (now (rest .entry)) (now (drape .entry)) (now (pins .entry))) ⌝ }
+    ensures { λ _. ⌜ LeavesWork (numberOf (call seat (stepStatic (pickOf flag vertex (vec3 x y z)) (now (work .entry)))) (benchOf «record» (now (rest .entry)) (now (drape .entry)) (now (pins .entry)))) (now (work .entry)) (now (work .exit)) ⌝ }
+{
+    let pick = picked(flag, vertex, Vec3 { x, y, z });
+    let a = steps::update_static(record, rest, drape, pins, work, seat, pick);
+    told(a)
+}
+
+// A dynamic step; no pick where `flag` is 0.
+#[no_mangle]
+pub extern "C" fn hairbench_step_dynamic(
+    record: Record,
+    rest: &[f64],
+    drape: &mut [f64],
+    pins: &[u8],
+    work: &mut [f64],
+    seat: usize,
+    flag: u8,
+    vertex: usize,
+    x: f64,
+    y: f64,
+    z: f64,
+    dt: f64,
+) -> Report
+    ensures { λ r. ⌜ r ≡ reportOf (answerOf (call seat (stepDynamic (pickOf flag vertex (vec3 x y z)) dt (now (work .entry)))) (benchOf «record» (now (rest .entry)) (now (drape .entry)) (now (pins .entry)))) ⌝ }
+    ensures { λ _. ⌜ benchOf «record» (now (rest .entry)) (now (drape .exit)) (now (pins .entry)) ≡ afterOf (call seat (stepDynamic (pickOf flag vertex (vec3 x y z)) dt (now (work .entry)))) (benchOf «record» (now (rest .entry)) (now (drape .entry)) (now (pins .entry))) ⌝ }
+    ensures { λ _. ⌜ LeavesWork (numberOf (call seat (stepDynamic (pickOf flag vertex (vec3 x y z)) dt (now (work .entry)))) (benchOf «record» (now (rest .entry)) (now (drape .entry)) (now (pins .entry)))) (now (work .entry)) (now (work .exit)) ⌝ }
+{
+    let pick = picked(flag, vertex, Vec3 { x, y, z });
+    let a = steps::update_dynamic(record, rest, drape, pins, work, seat, pick, dt);
+    told(a)
+}
