@@ -10,6 +10,7 @@ pub mod isolation;
 pub mod lists;
 mod numbers;
 pub mod rng;
+pub mod roots;
 mod shapes;
 pub mod shrink;
 

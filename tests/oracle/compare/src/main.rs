@@ -1,4 +1,5 @@
-//! `compare [LISTS [SEED]]`: the tested bench against the reference, then its seats' solo runs.
+//! `compare [LISTS [SEED]]`: the proved library against the reference, then its seats' solo runs.
+//! `compare roots [COUNT [SEED]]`: its root against the processor's, ten million patterns or COUNT.
 //! `compare wrong [LISTS [SEED]]`: wrong references against the reference; prints which are caught.
 //! `compare show K [LISTS [SEED]]`: a short list that catches wrong reference K, counted from 1.
 
@@ -8,6 +9,7 @@ use compare::crossings::crossings;
 use compare::examples::examples;
 use compare::isolation::isolated;
 use compare::lists::{list, CALLS, TYPICAL, WILD};
+use compare::roots::difference;
 use compare::shrink::shrink;
 use compare::{Event, Maker};
 use machine::Machine;
@@ -19,34 +21,35 @@ fn reference() -> Box<dyn Machine> {
     Box::new(Reference)
 }
 
-/// The bench that is compared: for now the copy of the reference with no mutation on.
+/// The bench that is compared: the proved library.
 fn tested() -> Box<dyn Machine> {
-    Box::new(Wrong::new(0))
+    Box::new(proved::Proved)
 }
 
 fn main() {
     let words: Vec<String> = std::env::args().skip(1).collect();
     let words: Vec<&str> = words.iter().map(|word| word.as_str()).collect();
     let good = match words[..] {
-        ["wrong", ref rest @ ..] => wrong_references(count_and_seed(rest)),
+        ["wrong", ref rest @ ..] => wrong_references(count_and_seed(rest, 1000)),
+        ["roots", ref rest @ ..] => same_roots(count_and_seed(rest, 10_000_000)),
         ["show", k, ref rest @ ..] => {
             let k = k.parse().expect("a number");
-            compared(&|| Box::new(Wrong::new(k)), count_and_seed(rest))
+            compared(&|| Box::new(Wrong::new(k)), count_and_seed(rest, 1000))
         }
         ref rest => {
-            let (count, seed) = count_and_seed(rest);
+            let (count, seed) = count_and_seed(rest, 1000);
             compared(&tested, (count, seed)) & all_isolated(count, seed)
         }
     };
     exit(i32::from(!good));
 }
 
-fn count_and_seed(words: &[&str]) -> (u64, u64) {
+fn count_and_seed(words: &[&str], count: u64) -> (u64, u64) {
     let number = |i: usize, default: u64| match words.get(i) {
         Some(word) => word.parse().expect("a number"),
         None => default,
     };
-    (number(0, 1000), number(1, 1))
+    (number(0, count), number(1, 1))
 }
 
 /// The lists made by hand, then as many typical ones, then as many wild ones.
@@ -100,6 +103,15 @@ fn all_isolated(count: u64, seed: u64) -> bool {
     }
     println!("isolated: {answers} answers as in the solo runs");
     true
+}
+
+fn same_roots((count, seed): (u64, u64)) -> bool {
+    let found = difference(proved::sqrt, count, seed);
+    match found {
+        None => println!("roots: {count} patterns, no difference"),
+        Some(x) => println!("the root of {x:e} {:016X} differs", x.to_bits()),
+    }
+    found.is_none()
 }
 
 /// Whether all are caught but those that no step can show.
