@@ -17,6 +17,8 @@ pub mod Assembly
 pub mod Fixing
 pub mod Shapes
 pub mod Descent
+pub mod FloatOrder
+pub mod RootBound
 pub mod Iteration
 pub mod Iterations
 pub mod Going

@@ -12,6 +12,7 @@ pub mod Fixed
 pub mod HairSystem
 pub mod Loads
 pub mod ConjugateGradient
+pub mod RootBound
 pub mod Iterations
 pub mod Runs
 pub mod Opened

@@ -1,5 +1,6 @@
 // The solve, by conjugate gradients. An iteration has two halves, between which the solve may end.
 use crate::area;
+use crate::root_bound;
 use crate::slice_of_array;
 use crate::sparse_square;
 ghost use mathlib.Core.Path.{_≡_};
@@ -58,7 +59,8 @@ fn begin(work: &mut [f64], n: usize) -> f64
     slice_of_array::dot(work, area::R, area::R, n)
 }
 
-// At most `limit` iterations, until the ratio is below the tolerance.
+// At most `limit` iterations, until the ratio is below the tolerance. The root of `square` is the
+// last ratio, and 0 before the first.
 fn iterate(work: &mut [f64], n: usize, first: f64, tolerance: f64, limit: usize) -> Solve
     requires { ⌜ (2 ≤ n) × (n ≤ 32) ⌝ }
     requires { ⌜ length (now work) ≡ workNumbers ⌝ }
@@ -66,16 +68,19 @@ fn iterate(work: &mut [f64], n: usize, first: f64, tolerance: f64, limit: usize)
     ensures { λ _. ⌜ Kept n (now (work .entry)) (now (work .exit)) ⌝ }
 {
     let inverse = 1.0 / first;
+    let bound = root_bound::bound_of(tolerance);
     let mut rho = first;
     let mut count = 0;
-    let mut ratio = 0.0;
+    let mut square = 0.0;
     loop {
         if limit <= count {
+            let ratio = roots::sqrt(square);
             break Solve { count, ratio };
         }
         let next = descend(work, n, rho);
         count += 1;
-        ratio = roots::sqrt(next * inverse);
+        square = next * inverse;
+        let ratio = root_bound::root_if_below(square, tolerance, bound);
         if ratio < tolerance {
             break Solve { count, ratio };
         }

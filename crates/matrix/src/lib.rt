@@ -5,6 +5,7 @@ pub mod hair_system;
 pub mod layout;
 pub mod loads;
 pub mod pins;
+pub mod root_bound;
 pub mod rows;
 pub mod slice_of_array;
 pub mod sparse_square;

@@ -7,15 +7,21 @@ use Rattle.matrix.proofs.conjugate_gradient.iterate.Statement.{statemen
 use Rattle.matrix.proofs.conjugate_gradient.iterate.Tie as tie
 
 abbrev Inv-loop : tie.InvT-loop
-Inv-loop work₀ n first tolerance limit inverse rho₀ count₀ ratio₀ work rho count ratio = (count ≤ limit) × Going n work₀ first inverse tolerance limit work rho count ratio
+Inv-loop work₀ n first tolerance limit inverse bound rho₀ count₀ square₀ work rho count square = (count ≤ limit) × Going n work₀ first inverse tolerance limit work rho count square
 
 abbrev μ-loop : tie.MeasureT-loop
-μ-loop work₀ n first tolerance limit inverse rho₀ count₀ ratio₀ work rho count ratio = limit - count
+μ-loop work₀ n first tolerance limit inverse bound rho₀ count₀ square₀ work rho count square = limit - count
+
+bound-of-requires : tie.Need-bound-of-requires Inv-loop μ-loop
+bound-of-requires c κs = search needs
 
 loop-holds : tie.Need-loop-holds Inv-loop μ-loop
 loop-holds c =
-    let s = c .before in
+    let s = c .before .before in
     (search needs, going-first _ _ _ _ _ _ (s .pre .1))
+
+sqrt-requires : tie.Need-sqrt-requires Inv-loop μ-loop
+sqrt-requires c κs = search needs
 
 descend-requires : tie.Need-descend-requires Inv-loop μ-loop
 descend-requires c κs = search needs
@@ -23,8 +29,8 @@ descend-requires c κs = search needs
 add-count : tie.Need-add-count Inv-loop μ-loop
 add-count c = search needs
 
-sqrt-requires : tie.Need-sqrt-requires Inv-loop μ-loop
-sqrt-requires c κs = search needs
+root-if-below-requires : tie.Need-root-if-below-requires Inv-loop μ-loop
+root-if-below-requires c κs = search needs
 
 redirect-requires : tie.Need-redirect-requires Inv-loop μ-loop
 redirect-requires c κs = search needs
@@ -37,15 +43,15 @@ loop-again c =
     let l = c .before .before .before .before .before .before .before .before .before .before .before .loop in
     let d = c .before .before .before .before .before .before .before .before .descend .ensures in
     let e = c .before .before .redirect .ensures in
-    (search needs, going-on (l .inv .1) _ _ _ (c .before .before .before .before .before .before .before .before .before .before .if1 .left) (d .0) (c .before .before .before .before .before .sqrt .ensures) _ (c .before .before .before .before .if2 .left) (d .1) (e .0) (e .1) (search needs))
+    (search needs, going-on (l .inv .1) _ _ _ (c .before .before .before .before .before .before .before .before .before .before .if1 .left) (d .0) (c .before .before .before .before .before .root-if-below .ensures) _ (c .before .before .before .before .if2 .left) (d .1) (e .0) (e .1) (search needs))
 
 same-length : tie.Need-same-length Inv-loop μ-loop
 same-length c = search needs
 
 returns : tie.Need-returns Inv-loop μ-loop
 returns c =
-    let g = c .before .loop .inv .1 in
-    (going-spent g (c .if1 .taken), g .keeps)
+    let g = c .before .before .loop .inv .1 in
+    (going-spent g _ (c .sqrt .ensures) (c .before .if1 .taken), g .keeps)
 
 same-length-2 : tie.Need-same-length-2 Inv-loop μ-loop
 same-length-2 c = search needs
@@ -56,7 +62,7 @@ returns-2 c =
     let d = q .before .before .before .descend .ensures in
     let i = q .before .before .before .before .before in
     let g = i .before .loop .inv .1 in
-    (going-enough g _ _ _ (i .if1 .left) (d .0) (q .sqrt .ensures) (c .if2 .taken), kept-on (g .keeps) (d .1))
+    (going-enough g _ _ _ (i .if1 .left) (d .0) (q .root-if-below .ensures) (c .if2 .taken), kept-on (g .keeps) (d .1))
 
 pub iterate-spec : {M : Type 1} → statement M
 iterate-spec =
@@ -64,10 +70,12 @@ iterate-spec =
     (tie.spec
     Inv-loop
     μ-loop
+    bound-of-requires
     loop-holds
+    sqrt-requires
     descend-requires
     add-count
-    sqrt-requires
+    root-if-below-requires
     redirect-requires
     loop-less
     loop-again
