@@ -97,9 +97,9 @@ bendRow2 k n0 n1 n2 v u =
       b2 = bendBlock k n2 n2 zeroVec3 zeroVec3 plusZero;
     }
 
-unfoldable pub wdwdwdwDarbouxRodHairApproxHessian : Rod → Vec3 → Vec3 → Bend
-wdwdwdwDarbouxRodHairApproxHessian rod k darboux =
-    let g = cdcRodDarboux rod in
+-- bend and twist from the Darboux vector and its gradient: lines 427 to 502
+unfoldable pub approxHessianOf : DarbouxGradient → Vec3 → Vec3 → Bend
+approxHessianOf g k darboux =
     let r = vec3Sub (g .c) darboux in
     let kr = entrywise k r in
     let n0 = bendNode0 g in
@@ -118,3 +118,6 @@ wdwdwdwDarbouxRodHairApproxHessian rod k darboux =
       row1 = bendRow1 k n0 n1 n2 kt1 v u;
       row2 = bendRow2 k n0 n1 n2 v u;
     }
+
+unfoldable pub wdwdwdwDarbouxRodHairApproxHessian : Rod → Vec3 → Vec3 → Bend
+wdwdwdwDarbouxRodHairApproxHessian rod k darboux = approxHessianOf (cdcRodDarboux rod) k darboux

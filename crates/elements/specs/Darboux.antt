@@ -65,16 +65,18 @@ denominatorGradient a b =
     let g1 = addGradientOfDotFrameAxis g0 plusOne (a .y) (b .y) in
     addGradientOfDotFrameAxis g1 plusOne (a .z) (b .z)
 
--- `darboux_rod`, lines 199 to 231
-unfoldable pub darbouxRod : Rod → Vec3
-darbouxRod rod =
-    let a = edgeFrame (rod .p0) (rod .p1) (rod .x0) .frame in
-    let b = edgeFrame (rod .p1) (rod .p2) (rod .x1) .frame in
+-- the Darboux vector of two frames: lines 224 to 230
+unfoldable pub darbouxOf : RodFrame → RodFrame → Vec3
+darbouxOf a b =
     let s = darbouxDenominator a b in
     vec3
     ((vec3Dot (a .y) (b .z) ⊖ vec3Dot (a .z) (b .y)) ⊘ s)
     ((vec3Dot (a .z) (b .x) ⊖ vec3Dot (a .x) (b .z)) ⊘ s)
     ((vec3Dot (a .x) (b .y) ⊖ vec3Dot (a .y) (b .x)) ⊘ s)
+
+-- `darboux_rod`, lines 199 to 231
+unfoldable pub darbouxRod : Rod → Vec3
+darbouxRod rod = darbouxOf (edgeFrame (rod .p0) (rod .p1) (rod .x0) .frame) (edgeFrame (rod .p1) (rod .p2) (rod .x1) .frame)
 
 -- lines 300 to 304: dudp scaled by t0 with dsdp scaled by t1 added, and the twists alike
 unfoldable pub combinedGradient : Gradient → Float → Gradient → Float → Gradient
@@ -95,11 +97,9 @@ darbouxAxis s ds aj ak bj bk =
     let du = addGradientOfDotFrameAxis du0 (neg plusOne) ak bj in
     record { c = u ⊘ s; d = combinedGradient du (plusOne ⊘ s) ds (neg u ⊘ (s ⊗ s)) }
 
--- `cdc_rod_darboux`, lines 234 to 308; the axes after i are (i + 1) % 3 and (i + 2) % 3
-unfoldable pub cdcRodDarboux : Rod → DarbouxGradient
-cdcRodDarboux rod =
-    let ea = edgeFrame (rod .p0) (rod .p1) (rod .x0) in
-    let eb = edgeFrame (rod .p1) (rod .p2) (rod .x1) in
+-- the Darboux vector of two edges with its gradient: lines 259 to 307; the axes after i are (i + 1) % 3 and (i + 2) % 3
+unfoldable pub cdcOf : EdgeFrame → EdgeFrame → DarbouxGradient
+cdcOf ea eb =
     let a = rodFrameGradient (ea .length) (ea .frame) in
     let b = rodFrameGradient (eb .length) (eb .frame) in
     let s = darbouxDenominator (ea .frame) (eb .frame) in
@@ -108,3 +108,7 @@ cdcRodDarboux rod =
     let r1 = darbouxAxis s ds (a .z) (a .x) (b .z) (b .x) in
     let r2 = darbouxAxis s ds (a .x) (a .y) (b .x) (b .y) in
     record { c = vec3 (r0 .c) (r1 .c) (r2 .c); d0 = r0 .d; d1 = r1 .d; d2 = r2 .d }
+
+-- `cdc_rod_darboux`, lines 234 to 308
+unfoldable pub cdcRodDarboux : Rod → DarbouxGradient
+cdcRodDarboux rod = cdcOf (edgeFrame (rod .p0) (rod .p1) (rod .x0)) (edgeFrame (rod .p1) (rod .p2) (rod .x1))

@@ -8,7 +8,7 @@ use vectors::mat3::Mat3;
 use vectors::vec3;
 use vectors::vec3::Vec3;
 ghost use mathlib.Core.Path.{_≡_};
-ghost use Rattle.elements.specs.Darboux.{edgeFrame, rodFrameGradient, noGradient, addGradientOfDotFrameAxis, darbouxDenominator, denominatorGradient, darbouxRod, combinedGradient, darbouxAxis, cdcRodDarboux};
+ghost use Rattle.elements.specs.Darboux.{edgeFrame, rodFrameGradient, noGradient, addGradientOfDotFrameAxis, darbouxDenominator, denominatorGradient, darbouxOf, darbouxRod, combinedGradient, darbouxAxis, cdcOf};
 
 // Three vertices and the frame's x axis at each of the two edges between them.
 pub struct Rod {
@@ -67,7 +67,7 @@ pub struct DarbouxGradient {
 }
 
 // The frame of the edge from p0 to p1 whose x axis is x. One root serves the length and the unit.
-fn edge_frame(p0: Vec3, p1: Vec3, x: Vec3) -> EdgeFrame
+pub fn edge_frame(p0: Vec3, p1: Vec3, x: Vec3) -> EdgeFrame
     ensures { λ r. ⌜ r ≡ edgeFrame p0 p1 x ⌝ }
 {
     let z = vec3::sub(p1, p0);
@@ -183,6 +183,27 @@ fn denominator_gradient(a: FrameGradient, b: FrameGradient) -> Gradient
     add_gradient_of_dot_frame_axis(g1, 1.0, az, bz)
 }
 
+// The Darboux vector of two neighbouring edges by their frames.
+pub fn darboux(a: RodFrame, b: RodFrame) -> Vec3
+    ensures { λ r. ⌜ r ≡ darbouxOf a b ⌝ }
+{
+    let ax = a.x;
+    let ay = a.y;
+    let az = a.z;
+    let bx = b.x;
+    let by = b.y;
+    let bz = b.z;
+    let s = darboux_denominator(a, b);
+    let u0 = vec3::dot(ay, bz) - vec3::dot(az, by);
+    let u1 = vec3::dot(az, bx) - vec3::dot(ax, bz);
+    let u2 = vec3::dot(ax, by) - vec3::dot(ay, bx);
+    Vec3 {
+        x: u0 / s,
+        y: u1 / s,
+        z: u2 / s,
+    }
+}
+
 pub fn darboux_rod(rod: Rod) -> Vec3
     ensures { λ r. ⌜ r ≡ darbouxRod rod ⌝ }
 {
@@ -195,19 +216,7 @@ pub fn darboux_rod(rod: Rod) -> Vec3
     let eb = edge_frame(p1, p2, x1);
     let a = ea.frame;
     let b = eb.frame;
-    let ay = a.y;
-    let az = a.z;
-    let by = b.y;
-    let bz = b.z;
-    let s = darboux_denominator(a, b);
-    let u0 = vec3::dot(ay, bz) - vec3::dot(az, by);
-    let u1 = vec3::dot(az, x1) - vec3::dot(x0, bz);
-    let u2 = vec3::dot(x0, by) - vec3::dot(ay, x1);
-    Vec3 {
-        x: u0 / s,
-        y: u1 / s,
-        z: u2 / s,
-    }
+    darboux(a, b)
 }
 
 // t0 times one gradient and t1 times another.
@@ -254,16 +263,10 @@ fn darboux_axis(
     }
 }
 
-pub fn cdc_rod_darboux(rod: Rod) -> DarbouxGradient
-    ensures { λ r. ⌜ r ≡ cdcRodDarboux rod ⌝ }
+// Two neighbouring edges are given by their frames and lengths.
+pub fn cdc_rod_darboux(ea: EdgeFrame, eb: EdgeFrame) -> DarbouxGradient
+    ensures { λ r. ⌜ r ≡ cdcOf ea eb ⌝ }
 {
-    let p0 = rod.p0;
-    let p1 = rod.p1;
-    let p2 = rod.p2;
-    let x0 = rod.x0;
-    let x1 = rod.x1;
-    let ea = edge_frame(p0, p1, x0);
-    let eb = edge_frame(p1, p2, x1);
     let fa = ea.frame;
     let fb = eb.frame;
     let a = rod_frame_gradient(ea.length, fa);

@@ -5,7 +5,7 @@ use crate::rows;
 use crate::slice_of_array;
 use crate::system;
 use elements::rod3_darboux;
-use elements::rod3_darboux::Rod;
+use elements::rod3_darboux::EdgeFrame;
 use elements::rod3_darboux::bend;
 use elements::rod3_darboux::bend::Bend;
 use elements::rod3_darboux::bend::BendRow;
@@ -26,7 +26,13 @@ ghost use Rattle.vectors.specs.Vec4.{vec4FromVec3};
 ghost use Rattle.matrix.specs.Rows.{rows3};
 ghost use Rattle.matrix.specs.Area.{placePositions, workNumbers, afterVectors};
 ghost use Rattle.matrix.specs.System.{systemAt};
-ghost use Rattle.matrix.specs.HairSystem.{stretchElement, bendElement, shape, stagedShape, rodOf, stretchAt, bendAt, stretches, bends, plusGradient, plusBlock, plusElement, plusElements, sumEnergies, assembled, hairEnergy, hairSystem};
+ghost use Rattle.matrix.specs.HairSystem.{stretchElement, bendElement, shape, stagedShape, stretchAt, frameAt, framesAt, bendBetween, stretches, bends, plusGradient, plusBlock, plusElement, plusElements, sumEnergies, assembled, hairEnergy, hairSystem};
+
+// One edge at rest and as it is staged.
+pub struct EdgeFrames {
+    pub ini: EdgeFrame,
+    pub def: EdgeFrame,
+}
 
 // The stretch of the edge from vertex i to the next; `rest` has the positions at rest.
 fn stretch_at(work: &[f64], rest: &[f64], n: usize, i: usize, k: f64) -> Stretch
@@ -44,36 +50,46 @@ fn stretch_at(work: &[f64], rest: &[f64], n: usize, i: usize, k: f64) -> Stretch
     spring3::wdwddw_squared_length_difference(k, p0, p1, ini.value)
 }
 
-// The edges from vertices i and i + 1, of the positions at p and the frames at f.
-fn rod_at(xyz: &[f64], p: usize, framex: &[f64], f: usize, n: usize, i: usize) -> Rod
-    requires { ⌜ i + 2 < n ⌝ }
+// The edge from vertex i, of the positions at p and the x axes at f.
+fn frame_at(xyz: &[f64], p: usize, framex: &[f64], f: usize, n: usize, i: usize) -> EdgeFrame
+    requires { ⌜ i + 1 < n ⌝ }
     requires { ⌜ p + 3 * n ≤ length (now xyz) ⌝ }
     requires { ⌜ f + 3 * n ≤ length (now framex) ⌝ }
-    ensures { λ r. ⌜ r ≡ rodOf (shape (rows3 (now (xyz .entry)) p n) (rows3 (now (framex .entry)) f n)) i ⌝ }
+    ensures { λ r. ⌜ r ≡ frameAt (shape (rows3 (now (xyz .entry)) p n) (rows3 (now (framex .entry)) f n)) i ⌝ }
 {
-    Rod {
-        p0: rows::load3(xyz, p + 3 * i),
-        p1: rows::load3(xyz, p + 3 * i + 3),
-        p2: rows::load3(xyz, p + 3 * i + 6),
-        x0: rows::load3(framex, f + 3 * i),
-        x1: rows::load3(framex, f + 3 * i + 3),
-    }
+    let p0 = rows::load3(xyz, p + 3 * i);
+    let p1 = rows::load3(xyz, p + 3 * i + 3);
+    let x = rows::load3(framex, f + 3 * i);
+    rod3_darboux::edge_frame(p0, p1, x)
 }
 
-// Bend and twist at the edges from vertices i and i + 1; `rest` and `axes` have the positions and
-// frames at rest.
-fn bend_at(work: &[f64], rest: &[f64], axes: &[f64], n: usize, i: usize, k: Vec3) -> Bend
-    requires { ⌜ i + 2 < n ⌝ }
+// The edge from vertex i in both shapes; `rest` and `axes` have the positions and x axes at rest.
+fn frames_at(work: &[f64], rest: &[f64], axes: &[f64], n: usize, i: usize) -> EdgeFrames
+    requires { ⌜ i + 1 < n ⌝ }
     requires { ⌜ n ≤ 32 ⌝ }
     requires { ⌜ 3 * n ≤ length (now rest) ⌝ }
     requires { ⌜ 3 * n ≤ length (now axes) ⌝ }
     requires { ⌜ length (now work) ≡ workNumbers ⌝ }
-    ensures { λ r. ⌜ r ≡ bendAt (shape (rows3 (now (rest .entry)) 0 n) (rows3 (now (axes .entry)) 0 n)) (stagedShape n (now (work .entry))) k i ⌝ }
+    ensures { λ r. ⌜ r ≡ framesAt (shape (rows3 (now (rest .entry)) 0 n) (rows3 (now (axes .entry)) 0 n)) (stagedShape n (now (work .entry))) i ⌝ }
 {
-    let ini = rod_at(rest, 0, axes, 0, n, i);
-    let def = rod_at(work, area::POSITIONS, work, area::FRAMES, n, i);
-    let darboux0 = rod3_darboux::darboux_rod(ini);
-    bend::wdwdwdw_darboux_rod_hair_approx_hessian(def, k, darboux0)
+    EdgeFrames {
+        ini: frame_at(rest, 0, axes, 0, n, i),
+        def: frame_at(work, area::POSITIONS, work, area::FRAMES, n, i),
+    }
+}
+
+// Bend and twist of the edge a and the next one, b.
+fn bend_between(a: EdgeFrames, b: EdgeFrames, k: Vec3) -> Bend
+    ensures { λ r. ⌜ r ≡ bendBetween a b k ⌝ }
+{
+    let a0 = a.ini;
+    let b0 = b.ini;
+    let f0 = a0.frame;
+    let f1 = b0.frame;
+    let darboux0 = rod3_darboux::darboux(f0, f1);
+    let a1 = a.def;
+    let b1 = b.def;
+    bend::wdwdwdw_darboux_rod_hair_approx_hessian(a1, b1, k, darboux0)
 }
 
 // One vertex i of the two from k on: its gradient, with 0 for the twist, and its blocks with both.
@@ -165,7 +181,8 @@ fn add_stretches(work: &mut [f64], n: usize, rest: &[f64], k: f64, w: f64) -> f6
     sum
 }
 
-// All bend elements upward, added to the system, and their energies to w.
+// All bend elements upward, added to the system, and their energies to w. Each edge is measured
+// once: the second of an element is the first of the next.
 fn add_bends(work: &mut [f64], n: usize, rest: &[f64], axes: &[f64], k: Vec3, w: f64) -> f64
     requires { ⌜ (2 ≤ n) × (n ≤ 32) ⌝ }
     requires { ⌜ 3 * n ≤ length (now rest) ⌝ }
@@ -176,11 +193,14 @@ fn add_bends(work: &mut [f64], n: usize, rest: &[f64], axes: &[f64], k: Vec3, w:
     ensures { λ _. ⌜ afterVectors (now (work .exit)) ≡ afterVectors (now (work .entry)) ⌝ }
 {
     let mut sum = w;
+    let mut a = frames_at(work, rest, axes, n, 0);
     let mut i = 0;
     while i + 2 < n {
-        let e = bend_at(work, rest, axes, n, i, k);
+        let b = frames_at(work, rest, axes, n, i + 1);
+        let e = bend_between(a, b, k);
         sum = sum + e.w;
         add_bend(work, n, i, e);
+        a = b;
         i += 1;
     }
     sum

@@ -2,7 +2,7 @@
 // Darboux vector's gradients, without its second derivatives.
 use crate::rod3_darboux;
 use crate::rod3_darboux::DarbouxGradient;
-use crate::rod3_darboux::Rod;
+use crate::rod3_darboux::EdgeFrame;
 use vectors::mat3;
 use vectors::mat3::Mat3;
 use vectors::mat4;
@@ -12,7 +12,8 @@ use vectors::vec3::Vec3;
 use vectors::vec4;
 use vectors::vec4::Vec4;
 ghost use mathlib.Core.Path.{_≡_};
-ghost use Rattle.elements.specs.Bend.{entrywise, weightedSum, bendNode0, bendNode1, bendNode2, bendGradient, blockSum, withCoupling, bendBlock, coupledOf, bendRow0, bendRow1, bendRow2, wdwdwdwDarbouxRodHairApproxHessian};
+ghost use Rattle.elements.specs.Bend.{entrywise, weightedSum, bendNode0, bendNode1, bendNode2, bendGradient, blockSum, withCoupling, bendBlock, coupledOf, bendRow0, bendRow1, bendRow2, approxHessianOf};
+ghost use Rattle.elements.specs.Darboux.{cdcOf};
 
 // What one vertex contributes: the gradients of the three components by its position, and by the
 // twist of the edge that begins there.
@@ -298,14 +299,16 @@ fn bend_row2(
     }
 }
 
+// Two neighbouring edges are given by their frames and lengths; darboux0 is the vector at rest.
 pub fn wdwdwdw_darboux_rod_hair_approx_hessian(
-    rod: Rod,
+    ea: EdgeFrame,
+    eb: EdgeFrame,
     stiff_bendtwist: Vec3,
     darboux0: Vec3,
 ) -> Bend
-    ensures { λ r. ⌜ r ≡ wdwdwdwDarbouxRodHairApproxHessian rod «stiff_bendtwist» darboux0 ⌝ }
+    ensures { λ r. ⌜ r ≡ approxHessianOf (cdcOf ea eb) «stiff_bendtwist» darboux0 ⌝ }
 {
-    let d = rod3_darboux::cdc_rod_darboux(rod);
+    let d = rod3_darboux::cdc_rod_darboux(ea, eb);
     let c = d.c;
     let r = vec3::sub(c, darboux0);
     let kr = entrywise(stiff_bendtwist, r);

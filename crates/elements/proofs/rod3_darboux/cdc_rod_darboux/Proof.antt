@@ -1,14 +1,8 @@
 -- What the calls promise, put together, is the definition.
 use borrow.Author.Needs.{needs}
-use Rattle.elements.specs.Darboux.{cdcRodDarboux}
+use Rattle.elements.specs.Darboux.{cdcOf}
 use Rattle.elements.proofs.rod3_darboux.cdc_rod_darboux.Statement.{statement}
 use Rattle.elements.proofs.rod3_darboux.cdc_rod_darboux.Tie as tie
-
-edge-frame-requires : tie.Need-edge-frame-requires
-edge-frame-requires c κs = search needs
-
-edge-frame-requires-2 : tie.Need-edge-frame-requires-2
-edge-frame-requires-2 c κs = search needs
 
 rod-frame-gradient-requires : tie.Need-rod-frame-gradient-requires
 rod-frame-gradient-requires c κs = search needs
@@ -32,7 +26,7 @@ darboux-axis-requires-3 : tie.Need-darboux-axis-requires-3
 darboux-axis-requires-3 c κs = search needs
 
 returns : tie.Need-returns
-unfolding cdcRodDarboux
+unfolding cdcOf
 returns c =
     simp (
       c .before .before .before .darboux-axis3 .ensures,
@@ -42,16 +36,12 @@ returns c =
       c .before .before .before .before .before .before .before .before .before .before .before .before .before .darboux-denominator .ensures,
       c .before .before .before .before .before .before .before .before .before .before .before .before .before .before .rod-frame-gradient2 .ensures,
       c .before .before .before .before .before .before .before .before .before .before .before .before .before .before .before .rod-frame-gradient .ensures,
-      c .before .before .before .before .before .before .before .before .before .before .before .before .before .before .before .before .before .before .edge-frame2 .ensures,
-      c .before .before .before .before .before .before .before .before .before .before .before .before .before .before .before .before .before .before .before .edge-frame .ensures,
     )
 
 pub cdc-rod-darboux-spec : {M : Type 1} → statement M
 cdc-rod-darboux-spec =
     tie.close
     (tie.spec
-    edge-frame-requires
-    edge-frame-requires-2
     rod-frame-gradient-requires
     rod-frame-gradient-requires-2
     darboux-denominator-requires

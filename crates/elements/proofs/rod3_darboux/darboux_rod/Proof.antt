@@ -1,6 +1,6 @@
 -- What the calls promise, put together, is the definition.
 use borrow.Author.Needs.{needs}
-use Rattle.elements.specs.Darboux.{darbouxRod, edgeFrame}
+use Rattle.elements.specs.Darboux.{darbouxRod}
 use Rattle.elements.proofs.rod3_darboux.darboux_rod.Statement.{statement}
 use Rattle.elements.proofs.rod3_darboux.darboux_rod.Tie as tie
 
@@ -10,53 +10,18 @@ edge-frame-requires c κs = search needs
 edge-frame-requires-2 : tie.Need-edge-frame-requires-2
 edge-frame-requires-2 c κs = search needs
 
-darboux-denominator-requires : tie.Need-darboux-denominator-requires
-darboux-denominator-requires c κs = search needs
-
-dot-requires : tie.Need-dot-requires
-dot-requires c κs = search needs
-
-dot-requires-2 : tie.Need-dot-requires-2
-dot-requires-2 c κs = search needs
-
-dot-requires-3 : tie.Need-dot-requires-3
-dot-requires-3 c κs = search needs
-
-dot-requires-4 : tie.Need-dot-requires-4
-dot-requires-4 c κs = search needs
-
-dot-requires-5 : tie.Need-dot-requires-5
-dot-requires-5 c κs = search needs
-
-dot-requires-6 : tie.Need-dot-requires-6
-dot-requires-6 c κs = search needs
+darboux-requires : tie.Need-darboux-requires
+darboux-requires c κs = search needs
 
 returns : tie.Need-returns
-unfolding darbouxRod edgeFrame
+unfolding darbouxRod
 returns c =
     simp (
-      c .dot6 .ensures,
-      c .before .dot5 .ensures,
-      c .before .before .dot4 .ensures,
-      c .before .before .before .dot3 .ensures,
-      c .before .before .before .before .dot2 .ensures,
-      c .before .before .before .before .before .dot .ensures,
-      c .before .before .before .before .before .before .darboux-denominator .ensures,
-      c .before .before .before .before .before .before .before .before .before .before .before .before .before .edge-frame2 .ensures,
-      c .before .before .before .before .before .before .before .before .before .before .before .before .before .before .edge-frame .ensures,
+      c .darboux .ensures,
+      c .before .before .before .edge-frame2 .ensures,
+      c .before .before .before .before .edge-frame .ensures,
     )
 
 pub darboux-rod-spec : {M : Type 1} → statement M
 darboux-rod-spec =
-    tie.close
-    (tie.spec
-    edge-frame-requires
-    edge-frame-requires-2
-    darboux-denominator-requires
-    dot-requires
-    dot-requires-2
-    dot-requires-3
-    dot-requires-4
-    dot-requires-5
-    dot-requires-6
-    returns)
+    tie.close (tie.spec edge-frame-requires edge-frame-requires-2 darboux-requires returns)

@@ -1,7 +1,7 @@
 -- What the calls promise, put together, is the definition.
 use borrow.Author.Needs.{needs}
 use Rattle.vectors.specs.Vec3.{vec3Dot}
-use Rattle.elements.specs.Bend.{wdwdwdwDarbouxRodHairApproxHessian, bendEnergy, entrywise}
+use Rattle.elements.specs.Bend.{approxHessianOf, bendEnergy, entrywise}
 use Rattle.elements.specs.Square.{square}
 use Rattle.elements.proofs.rod3_darboux.bend.wdwdwdw_darboux_rod_hair_approx_hessian.Statement.{statement}
 use Rattle.elements.proofs.rod3_darboux.bend.wdwdwdw_darboux_rod_hair_approx_hessian.Tie as tie
@@ -61,7 +61,7 @@ bend-row2-requires : tie.Need-bend-row2-requires
 bend-row2-requires c κs = search needs
 
 returns : tie.Need-returns
-unfolding wdwdwdwDarbouxRodHairApproxHessian bendEnergy square entrywise vec3Dot
+unfolding approxHessianOf bendEnergy square entrywise vec3Dot
 returns c =
     simp (
       c .bend-row2 .ensures,
