@@ -18,6 +18,7 @@ pub mod Fixing
 pub mod Shapes
 pub mod Descent
 pub mod FloatOrder
+pub mod SquareUnder
 pub mod RootBound
 pub mod Iteration
 pub mod Iterations

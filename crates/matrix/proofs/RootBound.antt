@@ -1,38 +1,33 @@
--- From the rounded square of the tolerance on, no root is below the tolerance, where the square's own root is not: the rounded root keeps the order.
--- From infinity on there is only infinity, whose root is below nothing.
+-- The bounds of the test that ends the solve. The rounded root keeps the order: from a number on whose own root is not below the tolerance, no root is.
+-- Such is 0 for a tolerance that is not above 0, and else a number above the tolerance's rounded square. From infinity on there is only infinity, whose root is below nothing.
 use mathlib.Core.Path.{_≡_, sym, _∙_}
 use mathlib.Core.Bool.{true, false, true≢false}
-use Prim.Native.Nat.{ℕ, _*_, _<_}
-use native.Mathlib.Nat.{mul-pos}
-use native.Mathlib.Omega.{arith}
 use lib.Dec.{T}
-use lib.Ieee.{Float, nan, inf, fin, binary64, ofBits, up, down, round, mul, div, lt, eq, le}
-use lib.Ieee.Fits.{down-pos}
-use lib.Ieee.Order.{round-mono}
+use lib.Ieee.{Float, nan, inf, fin, binary64, fits, ofBits, div, lt, eq, le}
 use Rattle.roots.specs.Sqrt.{sqrtOf}
 use Rattle.roots.proofs.Monotone.{sqrt-monotone}
 use Rattle.vectors.specs.Number.{_⊗_, _⊘_, plusZero, plusOne}
 use Rattle.matrix.specs.RootBound.{NoneBelow, RootIfBelow}
 use Rattle.matrix.proofs.FloatOrder.{not-below, infinite}
+use Rattle.matrix.proofs.SquareUnder.{square-under}
 
--- what `round` makes without a minus sign
-from-zero : (a c : ℕ) → 0 < c → T (le plusZero (round binary64 false a c))
-unfolding ofBits round
-from-zero a c h = round-mono binary64 0 1 a c (omega arith) h (omega arith)
+by-root : (tolerance bound : Float) → T (le plusZero bound) → lt (sqrtOf bound) tolerance ≡ false → NoneBelow tolerance bound
+by-root tolerance bound z p q h =
+    let l : T (le bound q) = rw h tt in
+    not-below (sqrtOf bound) (sqrtOf q) tolerance (sqrt-monotone bound q z l) p
 
--- a square that is not NaN
-square-from-zero : (x q : Float) → T (le (x ⊗ x) q) → T (le plusZero (x ⊗ x))
-unfolding mul le lt eq ofBits
-square-from-zero nan q h = absurd h
-square-from-zero (inf true) q h = tt
-square-from-zero (inf false) q h = tt
-square-from-zero (fin true m e) q h = from-zero (m * up e * (m * up e)) (down e * down e) (mul-pos (down-pos e) (down-pos e))
-square-from-zero (fin false m e) q h = from-zero (m * up e * (m * up e)) (down e * down e) (mul-pos (down-pos e) (down-pos e))
+pub zero-bounds : (tolerance : Float) → lt plusZero tolerance ≡ false → NoneBelow tolerance plusZero
+unfolding ofBits lt eq le sqrtOf
+zero-bounds tolerance p = by-root tolerance plusZero tt p
 
-pub square-bounds : (tolerance : Float) → lt (sqrtOf (tolerance ⊗ tolerance)) tolerance ≡ false → NoneBelow tolerance (tolerance ⊗ tolerance)
-square-bounds tolerance p q h =
-    let l : T (le (tolerance ⊗ tolerance) q) = rw h tt in
-    not-below (sqrtOf (tolerance ⊗ tolerance)) (sqrtOf q) tolerance (sqrt-monotone (tolerance ⊗ tolerance) q (square-from-zero tolerance q l) l) p
+lt-le : (x y : Float) → lt x y ≡ true → T (le x y)
+unfolding le
+lt-le x y h = rw h tt
+
+pub above-square-bounds : (tolerance bound : Float) → T (fits binary64 tolerance) → T (fits binary64 bound) → lt plusZero tolerance ≡ true → lt (tolerance ⊗ tolerance) bound ≡ true → NoneBelow tolerance bound
+above-square-bounds tolerance bound f g p l =
+    let u = square-under tolerance bound f g p l in
+    by-root tolerance bound (lt-le plusZero bound (u .0)) (u .1)
 
 abbrev infinity : Float
 infinity = plusOne ⊘ plusZero

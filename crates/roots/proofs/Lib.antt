@@ -1,6 +1,6 @@
 -- The laws behind the crate's proofs; specs/Correct.antt states the theorems.
 mod WholeRoot
-mod Spacing
+pub mod Spacing
 mod Nearest
 mod Root
 pub mod Correct

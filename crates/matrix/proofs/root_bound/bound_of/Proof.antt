@@ -1,17 +1,19 @@
--- Either answer is a bound by its law.
+-- Each of the three answers is a bound by its law.
 use borrow.Author.Needs.{needs}
-use Rattle.matrix.proofs.RootBound.{square-bounds, infinity-bounds}
+use lib.Ieee.{binary64}
+use lib.Ieee.Fits.{mul-fits}
+use Rattle.matrix.proofs.RootBound.{zero-bounds, above-square-bounds, infinity-bounds}
 use Rattle.matrix.proofs.root_bound.bound_of.Statement.{statement}
 use Rattle.matrix.proofs.root_bound.bound_of.Tie as tie
 
-sqrt-requires : tie.Need-sqrt-requires
-sqrt-requires c κs = search needs
-
 returns : tie.Need-returns
-returns c = infinity-bounds _
+returns c = above-square-bounds (c .before .before .args .tolerance) _ (search needs) (mul-fits binary64 _ _) (c .before .if1 .taken) (c .if2 .taken)
 
 returns-2 : tie.Need-returns-2
-returns-2 c = square-bounds _ (rw (c .before .sqrt .ensures) at (c .if1 .left))
+returns-2 c = infinity-bounds _
+
+returns-3 : tie.Need-returns-3
+returns-3 c = zero-bounds _ (c .if1 .left)
 
 pub bound-of-spec : {M : Type 1} → statement M
-bound-of-spec = tie.close (tie.spec sqrt-requires returns returns-2)
+bound-of-spec = tie.close (tie.spec returns returns-2 returns-3)
