@@ -11,7 +11,7 @@ pub mod lists;
 mod numbers;
 pub mod rng;
 pub mod roots;
-mod shapes;
+pub mod shapes;
 pub mod shrink;
 
 use machine::{Call, Machine, Poke};
