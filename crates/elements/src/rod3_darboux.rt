@@ -8,6 +8,7 @@ use vectors::mat3::Mat3;
 use vectors::vec3;
 use vectors::vec3::Vec3;
 ghost use mathlib.Core.Path.{_≡_};
+ghost use Rattle.vectors.specs.Vec3.{vec3Sub, vec3Norm};
 ghost use Rattle.elements.specs.Darboux.{edgeFrame, rodFrameGradient, noGradient, addGradientOfDotFrameAxis, darbouxDenominator, denominatorGradient, darbouxOf, darbouxRod, combinedGradient, darbouxAxis, cdcOf};
 
 // Three vertices and the frame's x axis at each of the two edges between them.
@@ -66,12 +67,12 @@ pub struct DarbouxGradient {
     pub d2: Gradient,
 }
 
-// The frame of the edge from p0 to p1 whose x axis is x. One root serves the length and the unit.
-pub fn edge_frame(p0: Vec3, p1: Vec3, x: Vec3) -> EdgeFrame
+// The frame of the edge from p0 to p1 whose x axis is x; its length is known, and serves the unit.
+pub fn edge_frame_of_length(p0: Vec3, p1: Vec3, x: Vec3, length: f64) -> EdgeFrame
+    requires { ⌜ length ≡ vec3Norm (vec3Sub p1 p0) ⌝ }
     ensures { λ r. ⌜ r ≡ edgeFrame p0 p1 x ⌝ }
 {
     let z = vec3::sub(p1, p0);
-    let length = vec3::norm(z);
     let uz = vec3::scale(z, 1.0 / length);
     let frame = RodFrame {
         x,
@@ -79,6 +80,12 @@ pub fn edge_frame(p0: Vec3, p1: Vec3, x: Vec3) -> EdgeFrame
         z: uz,
     };
     EdgeFrame { frame, length }
+}
+
+fn edge_frame(p0: Vec3, p1: Vec3, x: Vec3) -> EdgeFrame
+    ensures { λ r. ⌜ r ≡ edgeFrame p0 p1 x ⌝ }
+{
+    edge_frame_of_length(p0, p1, x, vec3::norm(vec3::sub(p1, p0)))
 }
 
 pub fn rod_frame_gradient(length: f64, frame: RodFrame) -> FrameGradient

@@ -4,6 +4,7 @@ use vectors::mat3::Mat3;
 use vectors::vec3;
 use vectors::vec3::Vec3;
 ghost use mathlib.Core.Path.{_≡_};
+ghost use Rattle.vectors.specs.Vec3.{vec3Sub, vec3Norm};
 ghost use Rattle.elements.specs.Spring3.{stretchBlock, wdwddwSquaredLengthDifference};
 
 // Energy w, its gradients at both ends, and two of the four blocks of second derivatives: `same` for
@@ -27,16 +28,18 @@ fn stretch_block(stiffness: f64, v: Vec3, l: f64, edge_length_ini: f64) -> Mat3
     mat3::add(mat3::scale(mvv, t0), t2)
 }
 
-pub fn wdwddw_squared_length_difference(
+// The stretch of an edge whose length l is known.
+pub fn stretch_of_length(
     stiffness: f64,
     p0: Vec3,
     p1: Vec3,
+    l: f64,
     edge_length_ini: f64,
 ) -> Stretch
+    requires { ⌜ l ≡ vec3Norm (vec3Sub p0 p1) ⌝ }
     ensures { λ r. ⌜ r ≡ wdwddwSquaredLengthDifference stiffness p0 p1 «edge_length_ini» ⌝ }
 {
     let v = vec3::sub(p0, p1);
-    let l = vec3::norm(v);
     let c = edge_length_ini - l;
     let m = stretch_block(stiffness, v, l, edge_length_ini);
     Stretch {
@@ -46,4 +49,16 @@ pub fn wdwddw_squared_length_difference(
         same: m,
         other: mat3::scale(m, -1.0),
     }
+}
+
+pub fn wdwddw_squared_length_difference(
+    stiffness: f64,
+    p0: Vec3,
+    p1: Vec3,
+    edge_length_ini: f64,
+) -> Stretch
+    ensures { λ r. ⌜ r ≡ wdwddwSquaredLengthDifference stiffness p0 p1 «edge_length_ini» ⌝ }
+{
+    let l = vec3::norm(vec3::sub(p0, p1));
+    stretch_of_length(stiffness, p0, p1, l, edge_length_ini)
 }

@@ -16,6 +16,7 @@ pub mod Diagonals
 pub mod Assembly
 pub mod Fixing
 pub mod Shapes
+pub mod EdgeLaws
 pub mod Descent
 pub mod FloatOrder
 pub mod SquareUnder

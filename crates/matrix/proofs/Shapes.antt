@@ -1,4 +1,4 @@
--- Vectors read from a list of numbers are those of its shape, and bend and twist there are those of two edges that follow each other. The staged shape stays while what stands after the vectors does.
+-- Vectors read from a list of numbers are those of its shape. The staged shape stays while what stands after the vectors does.
 use mathlib.Core.Path.{_≡_, sym, ap, _∙_}
 use mathlib.Core.List.{List}
 use Prim.Native.Nat.{ℕ, _+_, _-_, _*_, _≤_, _<_}
@@ -7,12 +7,10 @@ use lib.ListN.{length, getD}
 use lib.Seq.{getD-drop}
 use native.Mathlib.Nat.{zero-add}
 use native.Mathlib.Omega.{arith}
-use Rattle.vectors.specs.declared.vec3.Vec3.{Vec3}
-use Rattle.elements.specs.Darboux.{zeroVec3, darbouxRod, cdcRodDarboux}
-use Rattle.elements.specs.Bend.{wdwdwdwDarbouxRodHairApproxHessian}
+use Rattle.elements.specs.Darboux.{zeroVec3}
 use Rattle.matrix.specs.Rows.{row3, rows3}
 use Rattle.matrix.specs.Area.{placePositions, placeFrames, afterVectors}
-use Rattle.matrix.specs.HairSystem.{Shape, vec3At, stagedShape, rodOf, bendAt, frameAt, framesAt, bendBetween}
+use Rattle.matrix.specs.HairSystem.{vec3At, stagedShape}
 use Rattle.matrix.specs.Parts.{part, put}
 use Rattle.matrix.proofs.Parts.{table-ext, length-part, getD-part, getD-inside}
 use Rattle.matrix.proofs.Widths.{row-of}
@@ -50,7 +48,3 @@ module _ (w v : List Float) (e : afterVectors v ≡ afterVectors w) where
   pub shape-kept : (n : ℕ) → stagedShape n v ≡ stagedShape n w
   unfolding stagedShape
   shape-kept n = rw (rows3-kept placePositions n (omega arith), rows3-kept placeFrames n (omega arith))
-
-pub bend-by-frames : (rest now : Shape) (k : Vec3) (i : ℕ) → bendBetween (framesAt rest now i) (framesAt rest now (i + 1)) k ≡ bendAt rest now k i
-unfolding bendBetween framesAt frameAt bendAt rodOf wdwdwdwDarbouxRodHairApproxHessian cdcRodDarboux darbouxRod
-bend-by-frames rest now k i = let e : i + 1 + 1 ≡ i + 2 = omega arith in rw e

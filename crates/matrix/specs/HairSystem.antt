@@ -13,13 +13,11 @@ use Rattle.vectors.specs.declared.vec3.Vec3.{Vec3}
 use Rattle.vectors.specs.declared.vec4.Vec4.{Vec4}
 use Rattle.vectors.specs.declared.mat4.Mat4.{Mat4}
 use Rattle.elements.specs.Spring3.{wdwddwSquaredLengthDifference}
-use Rattle.elements.specs.Darboux.{zeroVec3, edgeFrame, darbouxOf, darbouxRod, cdcOf}
-use Rattle.elements.specs.Bend.{approxHessianOf, wdwdwdwDarbouxRodHairApproxHessian}
+use Rattle.elements.specs.Darboux.{zeroVec3, darbouxRod}
+use Rattle.elements.specs.Bend.{wdwdwdwDarbouxRodHairApproxHessian}
 use Rattle.elements.specs.declared.spring3.Stretch.{Stretch}
 use Rattle.elements.specs.declared.rod3_darboux.Rod.{Rod}
-use Rattle.elements.specs.declared.rod3_darboux.EdgeFrame.{EdgeFrame}
 use Rattle.elements.specs.declared.rod3_darboux.bend.Bend.{Bend}
-use Rattle.matrix.specs.declared.hair_system.EdgeFrames.{EdgeFrames}
 use Rattle.matrix.specs.Parts.{table}
 use Rattle.matrix.specs.Rows.{zeroRow, zeroBlock, rows3}
 use Rattle.matrix.specs.Area.{placePositions, placeFrames}
@@ -96,16 +94,6 @@ stretchAt rest now k i = wdwddwSquaredLengthDifference k (vec3At now i) (vec3At 
 -- lines 797 to 817: the Darboux vector at rest, and what the difference from it makes
 unfoldable pub bendAt : Shape → Shape → Vec3 → ℕ → Bend
 bendAt rest now k i = wdwdwdwDarbouxRodHairApproxHessian (rodOf now i) k (darbouxRod (rodOf rest i))
-
--- the edge from vertex i, and what two edges that follow each other make: bendAt, by the frames that it takes
-unfoldable pub frameAt : Shape → ℕ → EdgeFrame
-frameAt s i = edgeFrame (vec3At (s .positions) i) (vec3At (s .positions) (i + 1)) (vec3At (s .frames) i)
-
-unfoldable pub framesAt : Shape → Shape → ℕ → EdgeFrames
-framesAt rest now i = record { ini = frameAt rest i; def = frameAt now i }
-
-unfoldable pub bendBetween : EdgeFrames → EdgeFrames → Vec3 → Bend
-bendBetween a b k = approxHessianOf (cdcOf (a .def) (b .def)) k (darbouxOf (a .ini .frame) (b .ini .frame))
 
 -- lines 763 and 794: an element for each edge, and for each two edges
 unfoldable pub stretches : ℕ → List Vec3 → List Vec3 → Float → List Element

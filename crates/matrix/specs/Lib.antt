@@ -10,6 +10,7 @@ pub mod Area
 pub mod System
 pub mod Fixed
 pub mod HairSystem
+pub mod Edges
 pub mod Loads
 pub mod ConjugateGradient
 pub mod RootBound

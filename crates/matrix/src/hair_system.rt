@@ -1,17 +1,17 @@
 // The system of a strand: energy, gradient and matrix of its elements, from the shape at rest and
 // the one that stands in the staged parts of the area. Ported from rod3_darboux.rs.
 use crate::area;
+use crate::edges;
+use crate::edges::EdgeFrames;
 use crate::rows;
 use crate::slice_of_array;
 use crate::system;
 use elements::rod3_darboux;
-use elements::rod3_darboux::EdgeFrame;
 use elements::rod3_darboux::bend;
 use elements::rod3_darboux::bend::Bend;
 use elements::rod3_darboux::bend::BendRow;
 use elements::spring3;
 use elements::spring3::Stretch;
-use vectors::edge3;
 use vectors::mat4;
 use vectors::mat4::Mat4;
 use vectors::vec3::Vec3;
@@ -19,63 +19,27 @@ use vectors::vec4;
 use vectors::vec4::Vec4;
 ghost use mathlib.Core.Path.{_≡_};
 ghost use mathlib.Core.List.{[]};
-ghost use Prim.Native.Nat.{_+_, _*_, _≤_, _<_};
+ghost use Prim.Native.Nat.{_+_, _-_, _*_, _≤_, _<_};
 ghost use lib.ListN.{length};
 ghost use Rattle.vectors.specs.Number.{plusZero};
 ghost use Rattle.vectors.specs.Vec4.{vec4FromVec3};
 ghost use Rattle.matrix.specs.Rows.{rows3};
 ghost use Rattle.matrix.specs.Area.{placePositions, workNumbers, afterVectors};
 ghost use Rattle.matrix.specs.System.{systemAt};
-ghost use Rattle.matrix.specs.HairSystem.{stretchElement, bendElement, shape, stagedShape, stretchAt, frameAt, framesAt, bendBetween, stretches, bends, plusGradient, plusBlock, plusElement, plusElements, sumEnergies, assembled, hairEnergy, hairSystem};
+ghost use Rattle.matrix.specs.Edges.{lengthAt, edgeLengths, bendBetween, stretchBy, stretchesBy};
+ghost use Rattle.matrix.specs.HairSystem.{stretchElement, bendElement, shape, stagedShape, bends, plusGradient, plusBlock, plusElement, plusElements, sumEnergies, assembled, hairEnergy, hairSystem};
 
-// One edge at rest and as it is staged.
-pub struct EdgeFrames {
-    pub ini: EdgeFrame,
-    pub def: EdgeFrame,
-}
-
-// The stretch of the edge from vertex i to the next; `rest` has the positions at rest.
-fn stretch_at(work: &[f64], rest: &[f64], n: usize, i: usize, k: f64) -> Stretch
+// The stretch of the edge from vertex i to the next, by its lengths at rest and as it is staged.
+fn stretch_at(work: &[f64], n: usize, i: usize, k: f64, ini: f64, def: f64) -> Stretch
     requires { ⌜ i + 1 < n ⌝ }
     requires { ⌜ n ≤ 32 ⌝ }
-    requires { ⌜ 3 * n ≤ length (now rest) ⌝ }
+    requires { ⌜ def ≡ lengthAt (rows3 (now work) placePositions n) i ⌝ }
     requires { ⌜ length (now work) ≡ workNumbers ⌝ }
-    ensures { λ r. ⌜ r ≡ stretchAt (rows3 (now (rest .entry)) 0 n) (rows3 (now (work .entry)) placePositions n) k i ⌝ }
+    ensures { λ r. ⌜ r ≡ stretchBy (rows3 (now (work .entry)) placePositions n) k i ini ⌝ }
 {
-    let r0 = rows::load3(rest, 3 * i);
-    let r1 = rows::load3(rest, 3 * i + 3);
     let p0 = rows::load3(work, area::POSITIONS + 3 * i);
     let p1 = rows::load3(work, area::POSITIONS + 3 * i + 3);
-    let ini = edge3::length(r0, r1);
-    spring3::wdwddw_squared_length_difference(k, p0, p1, ini.value)
-}
-
-// The edge from vertex i, of the positions at p and the x axes at f.
-fn frame_at(xyz: &[f64], p: usize, framex: &[f64], f: usize, n: usize, i: usize) -> EdgeFrame
-    requires { ⌜ i + 1 < n ⌝ }
-    requires { ⌜ p + 3 * n ≤ length (now xyz) ⌝ }
-    requires { ⌜ f + 3 * n ≤ length (now framex) ⌝ }
-    ensures { λ r. ⌜ r ≡ frameAt (shape (rows3 (now (xyz .entry)) p n) (rows3 (now (framex .entry)) f n)) i ⌝ }
-{
-    let p0 = rows::load3(xyz, p + 3 * i);
-    let p1 = rows::load3(xyz, p + 3 * i + 3);
-    let x = rows::load3(framex, f + 3 * i);
-    rod3_darboux::edge_frame(p0, p1, x)
-}
-
-// The edge from vertex i in both shapes; `rest` and `axes` have the positions and x axes at rest.
-fn frames_at(work: &[f64], rest: &[f64], axes: &[f64], n: usize, i: usize) -> EdgeFrames
-    requires { ⌜ i + 1 < n ⌝ }
-    requires { ⌜ n ≤ 32 ⌝ }
-    requires { ⌜ 3 * n ≤ length (now rest) ⌝ }
-    requires { ⌜ 3 * n ≤ length (now axes) ⌝ }
-    requires { ⌜ length (now work) ≡ workNumbers ⌝ }
-    ensures { λ r. ⌜ r ≡ framesAt (shape (rows3 (now (rest .entry)) 0 n) (rows3 (now (axes .entry)) 0 n)) (stagedShape n (now (work .entry))) i ⌝ }
-{
-    EdgeFrames {
-        ini: frame_at(rest, 0, axes, 0, n, i),
-        def: frame_at(work, area::POSITIONS, work, area::FRAMES, n, i),
-    }
+    spring3::stretch_of_length(k, p0, p1, def, ini)
 }
 
 // Bend and twist of the edge a and the next one, b.
@@ -161,19 +125,27 @@ fn add_bend(work: &mut [f64], n: usize, k: usize, e: Bend)
     add_bend_row(work, n, k + 2, k, g2, r2);
 }
 
-// All stretch elements upward, added to the system, and their energies to w.
-fn add_stretches(work: &mut [f64], n: usize, rest: &[f64], k: f64, w: f64) -> f64
+// All stretch elements upward, added to the system, and their energies to w; the edges' lengths at
+// rest and as they are staged are known.
+fn add_stretches(
+    work: &mut [f64],
+    n: usize,
+    ini: &[f64; 32],
+    def: &[f64; 32],
+    k: f64,
+    w: f64,
+) -> f64
     requires { ⌜ (2 ≤ n) × (n ≤ 32) ⌝ }
-    requires { ⌜ 3 * n ≤ length (now rest) ⌝ }
+    requires { ⌜ now def ≡ edgeLengths (n - 1) (rows3 (now work) placePositions n) ⌝ }
     requires { ⌜ length (now work) ≡ workNumbers ⌝ }
-    ensures { λ r. ⌜ r ≡ sumEnergies w (stretches n (rows3 (now (rest .entry)) 0 n) (rows3 (now (work .entry)) placePositions n) k) ⌝ }
-    ensures { λ _. ⌜ systemAt n (now (work .exit)) ≡ plusElements n (stretches n (rows3 (now (rest .entry)) 0 n) (rows3 (now (work .entry)) placePositions n) k) (systemAt n (now (work .entry))) ⌝ }
+    ensures { λ r. ⌜ r ≡ sumEnergies w (stretchesBy n (now (ini .entry)) (rows3 (now (work .entry)) placePositions n) k) ⌝ }
+    ensures { λ _. ⌜ systemAt n (now (work .exit)) ≡ plusElements n (stretchesBy n (now (ini .entry)) (rows3 (now (work .entry)) placePositions n) k) (systemAt n (now (work .entry))) ⌝ }
     ensures { λ _. ⌜ afterVectors (now (work .exit)) ≡ afterVectors (now (work .entry)) ⌝ }
 {
     let mut sum = w;
     let mut i = 0;
     while i + 1 < n {
-        let e = stretch_at(work, rest, n, i, k);
+        let e = stretch_at(work, n, i, k, ini[i], def[i]);
         sum = sum + e.w;
         add_stretch(work, n, i, e);
         i += 1;
@@ -181,22 +153,33 @@ fn add_stretches(work: &mut [f64], n: usize, rest: &[f64], k: f64, w: f64) -> f6
     sum
 }
 
-// All bend elements upward, added to the system, and their energies to w. Each edge is measured
-// once: the second of an element is the first of the next.
-fn add_bends(work: &mut [f64], n: usize, rest: &[f64], axes: &[f64], k: Vec3, w: f64) -> f64
+// All bend elements upward, added to the system, and their energies to w; the edges' lengths at rest
+// and as they are staged are known. The second edge of an element is the first of the next.
+fn add_bends(
+    work: &mut [f64],
+    n: usize,
+    rest: &[f64],
+    axes: &[f64],
+    ini: &[f64; 32],
+    def: &[f64; 32],
+    k: Vec3,
+    w: f64,
+) -> f64
     requires { ⌜ (2 ≤ n) × (n ≤ 32) ⌝ }
     requires { ⌜ 3 * n ≤ length (now rest) ⌝ }
     requires { ⌜ 3 * n ≤ length (now axes) ⌝ }
+    requires { ⌜ now ini ≡ edgeLengths (n - 1) (rows3 (now rest) 0 n) ⌝ }
+    requires { ⌜ now def ≡ edgeLengths (n - 1) (rows3 (now work) placePositions n) ⌝ }
     requires { ⌜ length (now work) ≡ workNumbers ⌝ }
     ensures { λ r. ⌜ r ≡ sumEnergies w (bends n (shape (rows3 (now (rest .entry)) 0 n) (rows3 (now (axes .entry)) 0 n)) (stagedShape n (now (work .entry))) k) ⌝ }
     ensures { λ _. ⌜ systemAt n (now (work .exit)) ≡ plusElements n (bends n (shape (rows3 (now (rest .entry)) 0 n) (rows3 (now (axes .entry)) 0 n)) (stagedShape n (now (work .entry))) k) (systemAt n (now (work .entry))) ⌝ }
     ensures { λ _. ⌜ afterVectors (now (work .exit)) ≡ afterVectors (now (work .entry)) ⌝ }
 {
     let mut sum = w;
-    let mut a = frames_at(work, rest, axes, n, 0);
+    let mut a = edges::frames_at(work, rest, axes, n, 0, ini[0], def[0]);
     let mut i = 0;
     while i + 2 < n {
-        let b = frames_at(work, rest, axes, n, i + 1);
+        let b = edges::frames_at(work, rest, axes, n, i + 1, ini[i + 1], def[i + 1]);
         let e = bend_between(a, b, k);
         sum = sum + e.w;
         add_bend(work, n, i, e);
@@ -236,8 +219,10 @@ pub fn wdwddw_hair_system(
     ensures { λ _. ⌜ afterVectors (now (work .exit)) ≡ afterVectors (now (work .entry)) ⌝ }
 {
     clear(work, n);
-    let w = add_stretches(work, n, rest, stretch, 0.0);
-    let energy = add_bends(work, n, rest, axes, bendtwist, w);
+    let ini = edges::edge_lengths(rest, 0, n);
+    let def = edges::edge_lengths(work, area::POSITIONS, n);
+    let w = add_stretches(work, n, &ini, &def, stretch, 0.0);
+    let energy = add_bends(work, n, rest, axes, &ini, &def, bendtwist, w);
     system::add_to_diagonals(work, n, 0.0);
     energy
 }

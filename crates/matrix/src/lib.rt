@@ -1,6 +1,7 @@
 // Vectors of rows of four numbers and a matrix of blocks, in one flat area that the caller lends.
 pub mod area;
 pub mod conjugate_gradient;
+pub mod edges;
 pub mod hair_system;
 pub mod layout;
 pub mod loads;

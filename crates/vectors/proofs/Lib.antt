@@ -2,4 +2,5 @@
 pub mod Finiteness
 pub mod Fitting
 pub mod Series
+pub mod Reversed
 mod Samples

@@ -1,7 +1,5 @@
--- What the calls promise, put together, is the definition.
+-- The length that is passed on is the edge's own.
 use borrow.Author.Needs.{needs}
-use Rattle.vectors.specs.Vec3.{vec3Normalize}
-use Rattle.elements.specs.Darboux.{edgeFrame}
 use Rattle.elements.proofs.rod3_darboux.edge_frame.Statement.{statement}
 use Rattle.elements.proofs.rod3_darboux.edge_frame.Tie as tie
 
@@ -11,22 +9,12 @@ sub-requires c κs = search needs
 norm-requires : tie.Need-norm-requires
 norm-requires c κs = search needs
 
-scale-requires : tie.Need-scale-requires
-scale-requires c κs = search needs
-
-cross-requires : tie.Need-cross-requires
-cross-requires c κs = search needs
+edge-frame-of-length-requires : tie.Need-edge-frame-of-length-requires
+edge-frame-of-length-requires c κs = simp (c .norm .ensures, c .before .sub .ensures)
 
 returns : tie.Need-returns
-unfolding edgeFrame vec3Normalize
-returns c =
-    simp (
-      c .cross .ensures,
-      c .before .scale .ensures,
-      c .before .before .norm .ensures,
-      c .before .before .before .sub .ensures,
-    )
+returns c = c .edge-frame-of-length .ensures
 
 pub edge-frame-spec : {M : Type 1} → statement M
 edge-frame-spec =
-    tie.close (tie.spec sub-requires norm-requires scale-requires cross-requires returns)
+    tie.close (tie.spec sub-requires norm-requires edge-frame-of-length-requires returns)

@@ -1,7 +1,5 @@
--- What the calls promise, put together, is the definition.
+-- The length that is passed on is the edge's own.
 use borrow.Author.Needs.{needs}
-use Rattle.elements.specs.Spring3.{wdwddwSquaredLengthDifference}
-use Rattle.elements.specs.Square.{square}
 use Rattle.elements.proofs.spring3.wdwddw_squared_length_difference.Statement.{statement}
 use Rattle.elements.proofs.spring3.wdwddw_squared_length_difference.Tie as tie
 
@@ -11,38 +9,12 @@ sub-requires c κs = search needs
 norm-requires : tie.Need-norm-requires
 norm-requires c κs = search needs
 
-stretch-block-requires : tie.Need-stretch-block-requires
-stretch-block-requires c κs = search needs
-
-scale-requires : tie.Need-scale-requires
-scale-requires c κs = search needs
-
-scale-requires-2 : tie.Need-scale-requires-2
-scale-requires-2 c κs = search needs
-
-scale-requires-3 : tie.Need-scale-requires-3
-scale-requires-3 c κs = search needs
+stretch-of-length-requires : tie.Need-stretch-of-length-requires
+stretch-of-length-requires c κs = simp (c .norm .ensures, c .before .sub .ensures)
 
 returns : tie.Need-returns
-unfolding wdwddwSquaredLengthDifference square
-returns c =
-    simp (
-      c .scale3 .ensures,
-      c .before .scale2 .ensures,
-      c .before .before .scale .ensures,
-      c .before .before .before .stretch-block .ensures,
-      c .before .before .before .before .norm .ensures,
-      c .before .before .before .before .before .sub .ensures,
-    )
+returns c = c .stretch-of-length .ensures
 
 pub wdwddw-squared-length-difference-spec : {M : Type 1} → statement M
 wdwddw-squared-length-difference-spec =
-    tie.close
-    (tie.spec
-    sub-requires
-    norm-requires
-    stretch-block-requires
-    scale-requires
-    scale-requires-2
-    scale-requires-3
-    returns)
+    tie.close (tie.spec sub-requires norm-requires stretch-of-length-requires returns)

@@ -1,6 +1,6 @@
 -- What the calls promise, put together, is the definition.
 use borrow.Author.Needs.{needs}
-use Rattle.matrix.specs.HairSystem.{bendBetween}
+use Rattle.matrix.specs.Edges.{bendBetween}
 use Rattle.matrix.proofs.hair_system.bend_between.Statement.{statement}
 use Rattle.matrix.proofs.hair_system.bend_between.Tie as tie
 

@@ -1,11 +1,11 @@
--- Each vector stands where the shape says.
+-- Each vector stands where the shape says, and the length is that of the edge.
 use borrow.Author.Needs.{needs}
 use Prim.Native.Nat.{_+_, _*_}
 use native.Mathlib.Omega.{arith}
-use Rattle.matrix.specs.HairSystem.{frameAt}
+use Rattle.matrix.specs.Edges.{lengthAt, frameAt}
 use Rattle.matrix.proofs.Shapes.{vec3-at}
-use Rattle.matrix.proofs.hair_system.frame_at.Statement.{statement}
-use Rattle.matrix.proofs.hair_system.frame_at.Tie as tie
+use Rattle.matrix.proofs.edges.frame_at.Statement.{statement}
+use Rattle.matrix.proofs.edges.frame_at.Tie as tie
 
 mul-load3 : tie.Need-mul-load3
 mul-load3 c = search needs
@@ -37,15 +37,19 @@ add-load3-4 c = search needs
 load3-requires-3 : tie.Need-load3-requires-3
 load3-requires-3 c κs = search needs
 
-edge-frame-requires : tie.Need-edge-frame-requires
-edge-frame-requires c κs = search needs
+edge-frame-of-length-requires : tie.Need-edge-frame-of-length-requires
+unfolding lengthAt
+edge-frame-of-length-requires c κs =
+    let a = c .before .before .before .before .before .args in
+    let p = c .before .before .before .before .before .pre in
+    simp (c .before .load32 .ensures, c .before .before .load3 .ensures, vec3-at (a .xyz .now) (a .p) (a .n) (a .i) (a .p + 3 * a .i) (omega arith) (omega arith), vec3-at (a .xyz .now) (a .p) (a .n) (a .i + 1) (a .p + 3 * a .i + 3) (omega arith) (omega arith)) (p .1 .1 .1)
 
 returns : tie.Need-returns
 unfolding frameAt
 returns c =
     let a = c .before .before .before .before .before .before .args in
     let p = c .before .before .before .before .before .before .pre in
-    simp (c .edge-frame .ensures, c .before .load33 .ensures, c .before .before .load32 .ensures, c .before .before .before .load3 .ensures, vec3-at (a .xyz .now) (a .p) (a .n) (a .i) (a .p + 3 * a .i) (omega arith) (omega arith), vec3-at (a .xyz .now) (a .p) (a .n) (a .i + 1) (a .p + 3 * a .i + 3) (omega arith) (omega arith), vec3-at (a .framex .now) (a .f) (a .n) (a .i) (a .f + 3 * a .i) (omega arith) (omega arith))
+    simp (c .edge-frame-of-length .ensures, c .before .load33 .ensures, c .before .before .load32 .ensures, c .before .before .before .load3 .ensures, vec3-at (a .xyz .now) (a .p) (a .n) (a .i) (a .p + 3 * a .i) (omega arith) (omega arith), vec3-at (a .xyz .now) (a .p) (a .n) (a .i + 1) (a .p + 3 * a .i + 3) (omega arith) (omega arith), vec3-at (a .framex .now) (a .f) (a .n) (a .i) (a .f + 3 * a .i) (omega arith) (omega arith))
 
 pub frame-at-spec : {M : Type 1} → statement M
 frame-at-spec =
@@ -61,5 +65,5 @@ frame-at-spec =
     mul-load3-3
     add-load3-4
     load3-requires-3
-    edge-frame-requires
+    edge-frame-of-length-requires
     returns)
