@@ -1,0 +1,281 @@
+//! The library's calls behind safe functions; all `unsafe` of this crate is here.
+//!
+//! What the library asks of a caller (include/hairbench.h), and why each call below gives it:
+//! - pointers are not null and good for the lengths passed with them: both come from the same slice;
+//! - areas that are lent together do not overlap: each is a reference of its own, and of those at least one is
+//!   exclusive or all are shared;
+//! - nothing is kept: the library holds no pointer after a call, allocates nothing and calls nothing back.
+//!
+//! Lengths, contents and other arguments are free: the library checks them and answers a number.
+
+use crate::{Pick, Settings, Strand, SEATS};
+
+/// Numbers or bytes of the areas.
+pub(crate) const REST: usize = 1152;
+pub(crate) const DRAPE: usize = 2304;
+pub(crate) const PINS: usize = 768;
+pub(crate) const WORK: usize = 3264;
+
+/// Of each seat the number of vertices, 0 where it is empty, and the settings.
+#[repr(C)]
+#[derive(Clone, Copy, Debug, Default)]
+pub(crate) struct Record {
+    pub counts: [usize; SEATS],
+    pub settings: [Settings; SEATS],
+}
+
+/// A step's answer: the number that it is refused with, 0 for none, and its numbers.
+#[repr(C)]
+#[derive(Clone, Copy, Debug)]
+pub(crate) struct Report {
+    pub number: u8,
+    pub energy: f64,
+    pub count: usize,
+    pub ratio: f64,
+}
+
+/// Where a look's numbers stand in their area, and how many they are.
+#[repr(C)]
+#[derive(Clone, Copy, Debug, PartialEq)]
+pub(crate) struct Place {
+    pub at: usize,
+    pub count: usize,
+}
+
+/// The areas that a step is lent.
+pub(crate) struct Lent<'a> {
+    pub rest: &'a [f64],
+    pub drape: &'a mut [f64],
+    pub pins: &'a [u8],
+    pub work: &'a mut [f64],
+}
+
+#[rustfmt::skip]
+extern "C" {
+    fn hairbench_load(
+        record: *mut Record, rest: *mut f64, rest_length: usize, drape: *mut f64, drape_length: usize, pins: *mut u8,
+        pins_length: usize, seat: usize, n: usize, settings: Settings, positions: *const f64, positions_length: usize,
+        frames: *const f64, frames_length: usize,
+    ) -> u8;
+    fn hairbench_unload(
+        record: *mut Record, rest: *mut f64, rest_length: usize, drape: *mut f64, drape_length: usize, pins: *mut u8,
+        pins_length: usize, seat: usize,
+    ) -> u8;
+    fn hairbench_pin(
+        record: Record, pins: *mut u8, pins_length: usize, seat: usize, vertex: usize, component: usize, byte: u8,
+    ) -> u8;
+    fn hairbench_look(
+        record: Record, rest: *const f64, rest_length: usize, drape: *const f64, drape_length: usize, seat: usize,
+        kind: usize,
+    ) -> Place;
+    fn hairbench_companion(
+        record: Record, rest: *const f64, rest_length: usize, drape: *const f64, drape_length: usize, seat: usize,
+        kind: usize,
+    ) -> u8;
+    fn hairbench_step_static(
+        record: Record, rest: *const f64, rest_length: usize, drape: *mut f64, drape_length: usize, pins: *const u8,
+        pins_length: usize, work: *mut f64, work_length: usize, seat: usize, flag: u8, vertex: usize, x: f64, y: f64,
+        z: f64,
+    ) -> Report;
+    fn hairbench_step_dynamic(
+        record: Record, rest: *const f64, rest_length: usize, drape: *mut f64, drape_length: usize, pins: *const u8,
+        pins_length: usize, work: *mut f64, work_length: usize, seat: usize, flag: u8, vertex: usize, x: f64, y: f64,
+        z: f64, dt: f64,
+    ) -> Report;
+}
+
+/// The three areas of a load or an unload.
+pub(crate) struct Kept<'a> {
+    pub rest: &'a mut [f64],
+    pub drape: &'a mut [f64],
+    pub pins: &'a mut [u8],
+}
+
+pub(crate) fn load(record: &mut Record, kept: Kept, seat: usize, strand: &Strand) -> u8 {
+    let Kept { rest, drape, pins } = kept;
+    let Strand {
+        n,
+        settings,
+        positions,
+        frames,
+    } = *strand;
+    // Sound: pointer and length of each slice; record and the three areas are exclusive references, the lists shared ones
+    // that the library only reads.
+    unsafe {
+        hairbench_load(
+            record,
+            rest.as_mut_ptr(),
+            rest.len(),
+            drape.as_mut_ptr(),
+            drape.len(),
+            pins.as_mut_ptr(),
+            pins.len(),
+            seat,
+            n,
+            settings,
+            positions.as_ptr(),
+            positions.len(),
+            frames.as_ptr(),
+            frames.len(),
+        )
+    }
+}
+
+pub(crate) fn unload(record: &mut Record, kept: Kept, seat: usize) -> u8 {
+    let Kept { rest, drape, pins } = kept;
+    // Sound: pointer and length of each slice; record and the three areas are exclusive references.
+    unsafe {
+        hairbench_unload(
+            record,
+            rest.as_mut_ptr(),
+            rest.len(),
+            drape.as_mut_ptr(),
+            drape.len(),
+            pins.as_mut_ptr(),
+            pins.len(),
+            seat,
+        )
+    }
+}
+
+/// The place is the vertex and the component.
+pub(crate) fn pin(record: Record, pins: &mut [u8], seat: usize, place: (usize, usize), byte: u8) -> u8 {
+    // Sound: pointer and length of the one area, an exclusive reference; the record goes by value.
+    unsafe { hairbench_pin(record, pins.as_mut_ptr(), pins.len(), seat, place.0, place.1, byte) }
+}
+
+pub(crate) fn look(record: Record, rest: &[f64], drape: &[f64], seat: usize, kind: usize) -> Place {
+    // Sound: pointer and length of each slice; the library only reads them.
+    unsafe {
+        hairbench_look(
+            record,
+            rest.as_ptr(),
+            rest.len(),
+            drape.as_ptr(),
+            drape.len(),
+            seat,
+            kind,
+        )
+    }
+}
+
+pub(crate) fn companion(record: Record, rest: &[f64], drape: &[f64], seat: usize, kind: usize) -> u8 {
+    // Sound: pointer and length of each slice; the library only reads them.
+    unsafe {
+        hairbench_companion(
+            record,
+            rest.as_ptr(),
+            rest.len(),
+            drape.as_ptr(),
+            drape.len(),
+            seat,
+            kind,
+        )
+    }
+}
+
+/// A pick as the library takes it: 0 for none, then vertex and goal.
+fn flat(pick: Option<Pick>) -> (u8, usize, [f64; 3]) {
+    match pick {
+        None => (0, 0, [0.0; 3]),
+        Some(Pick { vertex, goal }) => (1, vertex, goal),
+    }
+}
+
+pub(crate) fn step_static(record: Record, lent: Lent, seat: usize, pick: Option<Pick>) -> Report {
+    let Lent {
+        rest,
+        drape,
+        pins,
+        work,
+    } = lent;
+    let (flag, vertex, [x, y, z]) = flat(pick);
+    // Sound: pointer and length of each slice; drape and work are exclusive references, rest and pins are only read.
+    unsafe {
+        hairbench_step_static(
+            record,
+            rest.as_ptr(),
+            rest.len(),
+            drape.as_mut_ptr(),
+            drape.len(),
+            pins.as_ptr(),
+            pins.len(),
+            work.as_mut_ptr(),
+            work.len(),
+            seat,
+            flag,
+            vertex,
+            x,
+            y,
+            z,
+        )
+    }
+}
+
+pub(crate) fn step_dynamic(record: Record, lent: Lent, seat: usize, pick: Option<Pick>, dt: f64) -> Report {
+    let Lent {
+        rest,
+        drape,
+        pins,
+        work,
+    } = lent;
+    let (flag, vertex, [x, y, z]) = flat(pick);
+    // Sound: as for the static step.
+    unsafe {
+        hairbench_step_dynamic(
+            record,
+            rest.as_ptr(),
+            rest.len(),
+            drape.as_mut_ptr(),
+            drape.len(),
+            pins.as_ptr(),
+            pins.len(),
+            work.as_mut_ptr(),
+            work.len(),
+            seat,
+            flag,
+            vertex,
+            x,
+            y,
+            z,
+            dt,
+        )
+    }
+}
+
+#[cfg(test)]
+mod tests {
+    use super::*;
+
+    #[test]
+    fn the_layout_is_that_of_the_header() {
+        assert_eq!(std::mem::size_of::<Settings>(), 40);
+        assert_eq!(std::mem::size_of::<Record>(), 6 * 8 + 6 * 40);
+        assert_eq!(std::mem::size_of::<Report>(), 32);
+        assert_eq!(std::mem::size_of::<Place>(), 16);
+    }
+
+    #[test]
+    fn areas_of_a_wrong_length_are_refused_with_1() {
+        let mut pins = [7u8; PINS];
+        assert_eq!(pin(Record::default(), &mut pins[1..], 0, (0, 0), 1), 1);
+        assert_eq!(pin(Record::default(), &mut [], 0, (0, 0), 1), 1);
+        assert_eq!(pins, [7u8; PINS]);
+        let (rest, drape) = ([0.0; REST], [0.0; DRAPE]);
+        assert_eq!(companion(Record::default(), &rest[..7], &drape, 0, 0), 1);
+        let refused = Place { at: 0, count: 0 };
+        assert_eq!(look(Record::default(), &rest[..7], &drape, 0, 0), refused);
+    }
+
+    #[test]
+    fn a_record_that_no_call_leaves_is_refused_with_1() {
+        let mut record = Record::default();
+        record.counts[3] = 33;
+        assert_eq!(pin(record, &mut [0; PINS], 0, (0, 0), 1), 1);
+        record.counts[3] = 2;
+        record.settings[3].conv_ratio = -1.0;
+        assert_eq!(pin(record, &mut [0; PINS], 0, (0, 0), 1), 1);
+        record.settings[3].conv_ratio = 0.0;
+        assert_eq!(pin(record, &mut [0; PINS], 3, (0, 0), 1), 0);
+    }
+}
