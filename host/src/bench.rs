@@ -33,11 +33,7 @@ impl Bench {
 
     /// Lays a strand on an empty seat, unpinned and at rest.
     pub fn load(&mut self, seat: usize, strand: &Strand) -> Result<(), Refusal> {
-        let kept = Kept {
-            rest: &mut self.rest,
-            drape: &mut self.drape,
-            pins: &mut self.pins,
-        };
+        let kept = Kept { rest: &mut self.rest, drape: &mut self.drape, pins: &mut self.pins };
         answer(ffi::load(&mut self.record, kept, seat, strand))
     }
 
@@ -48,11 +44,7 @@ impl Bench {
     /// assert_eq!(Bench::new().unload(3), Err(Refusal::SeatState));
     /// ```
     pub fn unload(&mut self, seat: usize) -> Result<(), Refusal> {
-        let kept = Kept {
-            rest: &mut self.rest,
-            drape: &mut self.drape,
-            pins: &mut self.pins,
-        };
+        let kept = Kept { rest: &mut self.rest, drape: &mut self.drape, pins: &mut self.pins };
         answer(ffi::unload(&mut self.record, kept, seat))
     }
 
@@ -119,11 +111,7 @@ impl Bench {
         if seat >= SEATS {
             return None;
         }
-        let Settings {
-            stiff_length,
-            stiff_bendtwist: [b0, b1, b2],
-            conv_ratio,
-        } = self.record.settings[seat];
+        let Settings { stiff_length, stiff_bendtwist: [b0, b1, b2], conv_ratio } = self.record.settings[seat];
         let mut bits = vec![self.record.counts[seat] as u64];
         bits.extend([stiff_length, b0, b1, b2, conv_ratio].map(f64::to_bits));
         bits.extend(self.rest[192 * seat..192 * (seat + 1)].iter().map(|x| x.to_bits()));
@@ -133,12 +121,7 @@ impl Bench {
     }
 
     fn lent(&mut self) -> Lent<'_> {
-        Lent {
-            rest: &self.rest,
-            drape: &mut self.drape,
-            pins: &self.pins,
-            work: &mut self.work,
-        }
+        Lent { rest: &self.rest, drape: &mut self.drape, pins: &self.pins, work: &mut self.work }
     }
 }
 
@@ -152,9 +135,5 @@ fn answer(number: u8) -> Result<(), Refusal> {
 
 fn report(told: Report) -> Result<StepReport, Refusal> {
     answer(told.number)?;
-    Ok(StepReport {
-        energy: told.energy,
-        count: told.count,
-        ratio: told.ratio,
-    })
+    Ok(StepReport { energy: told.energy, count: told.count, ratio: told.ratio })
 }

@@ -93,12 +93,7 @@ pub(crate) struct Kept<'a> {
 
 pub(crate) fn load(record: &mut Record, kept: Kept, seat: usize, strand: &Strand) -> u8 {
     let Kept { rest, drape, pins } = kept;
-    let Strand {
-        n,
-        settings,
-        positions,
-        frames,
-    } = *strand;
+    let Strand { n, settings, positions, frames } = *strand;
     // Sound: pointer and length of each slice; record and the three areas are exclusive references, the lists shared ones
     // that the library only reads.
     unsafe {
@@ -146,32 +141,12 @@ pub(crate) fn pin(record: Record, pins: &mut [u8], seat: usize, place: (usize, u
 
 pub(crate) fn look(record: Record, rest: &[f64], drape: &[f64], seat: usize, kind: usize) -> Place {
     // Sound: pointer and length of each slice; the library only reads them.
-    unsafe {
-        hairbench_look(
-            record,
-            rest.as_ptr(),
-            rest.len(),
-            drape.as_ptr(),
-            drape.len(),
-            seat,
-            kind,
-        )
-    }
+    unsafe { hairbench_look(record, rest.as_ptr(), rest.len(), drape.as_ptr(), drape.len(), seat, kind) }
 }
 
 pub(crate) fn companion(record: Record, rest: &[f64], drape: &[f64], seat: usize, kind: usize) -> u8 {
     // Sound: pointer and length of each slice; the library only reads them.
-    unsafe {
-        hairbench_companion(
-            record,
-            rest.as_ptr(),
-            rest.len(),
-            drape.as_ptr(),
-            drape.len(),
-            seat,
-            kind,
-        )
-    }
+    unsafe { hairbench_companion(record, rest.as_ptr(), rest.len(), drape.as_ptr(), drape.len(), seat, kind) }
 }
 
 /// A pick as the library takes it: 0 for none, then vertex and goal.
@@ -183,12 +158,7 @@ fn flat(pick: Option<Pick>) -> (u8, usize, [f64; 3]) {
 }
 
 pub(crate) fn step_static(record: Record, lent: Lent, seat: usize, pick: Option<Pick>) -> Report {
-    let Lent {
-        rest,
-        drape,
-        pins,
-        work,
-    } = lent;
+    let Lent { rest, drape, pins, work } = lent;
     let (flag, vertex, [x, y, z]) = flat(pick);
     // Sound: pointer and length of each slice; drape and work are exclusive references, rest and pins are only read.
     unsafe {
@@ -213,12 +183,7 @@ pub(crate) fn step_static(record: Record, lent: Lent, seat: usize, pick: Option<
 }
 
 pub(crate) fn step_dynamic(record: Record, lent: Lent, seat: usize, pick: Option<Pick>, dt: f64) -> Report {
-    let Lent {
-        rest,
-        drape,
-        pins,
-        work,
-    } = lent;
+    let Lent { rest, drape, pins, work } = lent;
     let (flag, vertex, [x, y, z]) = flat(pick);
     // Sound: as for the static step.
     unsafe {

@@ -1,0 +1,228 @@
+//! Runs a script on a bench. Pictures are made as their lines come, and handed back to be written at the end.
+
+use crate::calls::{perform, Answer, Call, Made, Told};
+use crate::output::Output;
+use crate::page;
+use crate::picture;
+use crate::progress::Progress;
+use crate::scene::{scene, scenes};
+use crate::script::{Action, Fault, Statement, Who, STEPS_A_SECOND};
+use crate::table::{Row, Table};
+use crate::timeline::{taken, Stepped, Timeline};
+use hairbench::{Bench, Pick, Refusal, SEATS};
+
+pub struct Run {
+    pub bench: Bench,
+    pub made: Vec<Made>,
+    pub outputs: Vec<Output>,
+    timeline: Timeline,
+    held: [Option<Pick>; SEATS],
+    unit: String,
+    table: Table,
+    progress: Progress,
+}
+
+impl Run {
+    pub fn new(quiet: bool) -> Run {
+        Run {
+            bench: Bench::new(),
+            made: vec![],
+            outputs: vec![],
+            timeline: Timeline::default(),
+            held: [None; SEATS],
+            unit: "units".to_string(),
+            table: Table::new(quiet),
+            progress: Progress::new(quiet),
+        }
+    }
+
+    /// Runs the statements, up to the first that is refused.
+    pub fn all(&mut self, statements: &[Statement]) -> Result<(), Fault> {
+        for statement in statements {
+            let outcome = self.one(statement);
+            self.progress.clear();
+            outcome.map_err(|refusal| Fault {
+                line: statement.line,
+                message: format!("refused with {}: {refusal}", refusal.number()),
+            })?;
+        }
+        Ok(())
+    }
+
+    fn one(&mut self, statement: &Statement) -> Result<(), Refusal> {
+        let line = statement.line;
+        match &statement.action {
+            Action::Unit(unit) => self.unit = unit.clone(),
+            Action::Load { seat, laid } => {
+                self.simple(line, "load", *seat, Call::Load(laid.clone()))?;
+                self.timeline.seating_tick(line);
+                self.timeline.begin(&self.bench, *seat);
+            }
+            Action::Unload { seat } => {
+                self.simple(line, "unload", *seat, Call::Unload)?;
+                self.held[*seat] = None;
+                self.timeline.seating_tick(line);
+                self.timeline.end(*seat);
+            }
+            Action::Pin { seat, vertex, components, pinned } => {
+                for &component in components {
+                    let call = Call::Pin { vertex: *vertex, component, pinned: *pinned };
+                    let name = format!("{} {vertex} {component:?}", if *pinned { "pin" } else { "free" });
+                    self.simple(line, &name.to_lowercase(), *seat, call)?;
+                }
+            }
+            Action::Pick { seat, pick } => self.pick(line, *seat, *pick)?,
+            Action::Drop { seat } => {
+                let answer = if self.held[*seat].take().is_some() { "dropped" } else { "nothing held" };
+                self.row(line, "drop", Some(*seat), answer.to_string(), None);
+            }
+            Action::Settle { who, steps, tolerance } => {
+                self.steps(statement, *who, *steps, *tolerance, Call::Static)?
+            }
+            Action::Move { who, steps } => {
+                let dt = 1.0 / STEPS_A_SECOND as f64;
+                self.steps(statement, *who, *steps, -1.0, |pick| Call::Dynamic(pick, dt))?
+            }
+            Action::Look { seat, kind } => {
+                let told = self.simple(line, "look", *seat, Call::Look(*kind))?;
+                if let Told::Numbers(numbers) = told {
+                    let points: Vec<_> = numbers.chunks_exact(3).map(|p| [p[0], p[1], p[2]]).collect();
+                    self.table.points(&points);
+                }
+            }
+            Action::Draw { file, who } => self.draw(line, file, *who)?,
+            Action::Play { file, who } => self.play(line, file, *who)?,
+        }
+        Ok(())
+    }
+
+    fn call(&mut self, seat: usize, call: Call) -> Answer {
+        let answer = perform(&mut self.bench, seat, &call);
+        self.made.push(Made { seat, call, answer: answer.clone() });
+        answer
+    }
+
+    fn row(&mut self, line: usize, call: &str, seat: Option<usize>, answer: String, step: Option<Stepped>) {
+        self.progress.clear();
+        self.table.row(&Row { line, call, seat, answer, step });
+    }
+
+    /// A call that has a row of its own.
+    fn simple(&mut self, line: usize, name: &str, seat: usize, call: Call) -> Answer {
+        let answer = self.call(seat, call);
+        self.row(line, name, Some(seat), said(&answer), None);
+        answer
+    }
+
+    /// Holds a pick for the steps that follow. One that they would be refused for is refused here.
+    fn pick(&mut self, line: usize, seat: usize, pick: Pick) -> Result<(), Refusal> {
+        let refusal = match self.bench.count(seat) {
+            0 => Some(Refusal::SeatState),
+            n if pick.vertex >= n => Some(Refusal::Index),
+            _ => None,
+        };
+        let answer = refusal.map_or("held".to_string(), |r| format!("refused, {}", r.number()));
+        self.row(line, &format!("pick {}", pick.vertex), Some(seat), answer, None);
+        refusal.map_or(Ok(()), Err)?;
+        self.held[seat] = Some(pick);
+        Ok(())
+    }
+
+    /// Rounds of steps, one on each seat, until each has moved less than the tolerance in a step.
+    fn steps(
+        &mut self,
+        statement: &Statement,
+        who: Who,
+        steps: usize,
+        tolerance: f64,
+        call: impl Fn(Option<Pick>) -> Call,
+    ) -> Result<(), Refusal> {
+        let line = statement.line;
+        let name = statement.text.split(' ').next().unwrap_or("");
+        let seats = match who {
+            Who::Seat(seat) => vec![seat],
+            Who::All => taken(&self.bench),
+        };
+        let mut going = seats.clone();
+        let mut last: [(usize, Option<Stepped>); SEATS] = [(0, None); SEATS];
+        for step in 0..steps {
+            if going.is_empty() {
+                break;
+            }
+            self.timeline.step_tick(line, &statement.text);
+            self.progress.show(line, step, steps);
+            for seat in std::mem::take(&mut going) {
+                let stepped = self.step(line, name, seat, &call)?;
+                last[seat] = (step + 1, Some(stepped));
+                if stepped.moved >= tolerance {
+                    going.push(seat);
+                }
+            }
+        }
+        for seat in seats {
+            let (count, step) = last[seat];
+            let plural = if count == 1 { "" } else { "s" };
+            self.row(line, &format!("{name}, {count} step{plural}"), Some(seat), "accepted".to_string(), step);
+        }
+        Ok(())
+    }
+
+    fn step(
+        &mut self,
+        line: usize,
+        name: &str,
+        seat: usize,
+        call: impl Fn(Option<Pick>) -> Call,
+    ) -> Result<Stepped, Refusal> {
+        let pick = self.held[seat];
+        match self.call(seat, call(pick)) {
+            Ok(Told::Step(report)) => {
+                let moved = self.timeline.note(&self.bench, seat, pick, report);
+                Ok(Stepped { report, moved })
+            }
+            Ok(_) => unreachable!("a step is told as a step"),
+            Err(refusal) => {
+                self.row(line, name, Some(seat), said(&Err(refusal)), None);
+                Err(refusal)
+            }
+        }
+    }
+
+    fn draw(&mut self, line: usize, file: &str, who: Who) -> Result<(), Refusal> {
+        let text = match who {
+            Who::Seat(seat) => {
+                let scene = scene(&self.bench, &self.timeline, seat, self.held[seat]).ok_or(Refusal::SeatState)?;
+                picture::single(&scene, &self.unit)
+            }
+            Who::All => picture::grid(&scenes(&self.bench, &self.timeline, &self.held), &self.unit),
+        };
+        self.collect(line, "draw", file, who, text);
+        Ok(())
+    }
+
+    fn play(&mut self, line: usize, file: &str, who: Who) -> Result<(), Refusal> {
+        let text = match who {
+            Who::Seat(seat) => page::single(&self.timeline, seat, &self.unit).ok_or(Refusal::SeatState)?,
+            Who::All => page::grid(&self.timeline, &self.unit),
+        };
+        self.collect(line, "play", file, who, text);
+        Ok(())
+    }
+
+    fn collect(&mut self, line: usize, call: &str, file: &str, who: Who, text: String) {
+        let seat = match who {
+            Who::Seat(seat) => Some(seat),
+            Who::All => None,
+        };
+        self.row(line, call, seat, format!("kept for {file}"), None);
+        self.outputs.push(Output { name: file.to_string(), text });
+    }
+}
+
+fn said(answer: &Answer) -> String {
+    match answer {
+        Ok(Told::Numbers(numbers)) => format!("{} numbers", numbers.len()),
+        Ok(_) => "accepted".to_string(),
+        Err(refusal) => format!("refused, {}", refusal.number()),
+    }
+}
