@@ -40,8 +40,8 @@ pub fn laid(words: &mut Words, reader: Reader) -> Result<Laid, String> {
 
 fn settings(words: &mut Words) -> Result<Settings, String> {
     Ok(Settings {
-        stiff_length: words.number_key("stretch", 20.0)?,
-        stiff_bendtwist: words.one_or_three_key("bend", 2.0)?,
+        stiff_length: words.number_key("stretch", 2.0)?,
+        stiff_bendtwist: words.one_or_three_key("bend", 10.0)?,
         conv_ratio: words.number_key("ratio", 1.0e-8)?,
     })
 }

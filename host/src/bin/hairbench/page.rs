@@ -2,6 +2,7 @@
 
 use crate::json::{exact, list, object, rough, text};
 use crate::pack::pack;
+use crate::shapes::Point;
 use crate::svg::escaped;
 use crate::timeline::{Frame, Part, Stay, Timeline};
 use crate::view::Bounds;
@@ -57,10 +58,21 @@ fn page(title: &str, unit: &str, ticks: usize, parts: &[Part], seats: &[(usize, 
 }
 
 fn seat_data(seat: usize, stays: &[&Stay]) -> String {
-    let goals = stays.iter().flat_map(|s| &s.frames).filter_map(|f| f.pick.map(|p| p.goal));
-    let seen = stays.iter().flat_map(|s| &s.frames).flat_map(|f| f.points.iter().copied()).chain(goals);
-    let room = Bounds::of(seen).map_or("null".to_string(), |b| list(b.low.into_iter().chain(b.high).map(exact)));
+    let room = room(stays).map_or("null".to_string(), |b| list(b.low.into_iter().chain(b.high).map(exact)));
     object(&[("seat", seat.to_string()), ("room", room), ("stays", list(stays.iter().map(|s| stay_data(s))))])
+}
+
+/// What a seat's panels show: strands at rest, last frames and goals, and all but the widest twentieth of the frames.
+fn room(stays: &[&Stay]) -> Option<Bounds> {
+    let frames = || stays.iter().flat_map(|s| &s.frames);
+    let ends = stays.iter().flat_map(|s| s.frames.first().into_iter().chain(s.frames.last()));
+    let goals = frames().filter_map(|f| f.pick.map(|p| p.goal));
+    let always: Vec<Point> = ends.flat_map(|f| f.points.iter().copied()).chain(goals).collect();
+    let mut wide: Vec<Bounds> = frames().filter_map(|f| Bounds::of(f.points.iter().copied())).collect();
+    let size = |b: &Bounds| (0..3).map(|k| b.high[k] - b.low[k]).fold(0.0, f64::max);
+    wide.sort_by(|a, b| size(a).total_cmp(&size(b)));
+    wide.truncate(wide.len() * 19 / 20);
+    Bounds::of(always.into_iter().chain(wide.into_iter().flat_map(|b| [b.low, b.high])))
 }
 
 fn stay_data(stay: &Stay) -> String {

@@ -1,5 +1,5 @@
 // Plots of energy and iterations over the ticks, with a line at the present one.
-const PLOT = { wide: 1280, high: 170, left: 76, right: 14, top: 26, foot: 24 };
+const PLOT = { wide: 1280, high: 176, left: 76, right: 14, top: 28, foot: 28 };
 
 function across(tick) {
   const last = Math.max(DATA.ticks - 1, 1);
@@ -24,9 +24,10 @@ function upward(values) {
 }
 
 function plot(parent, title, field) {
+  PLOT.wide = Math.max(parent.clientWidth, 420);
   const svg = element("svg", { viewBox: `0 0 ${PLOT.wide} ${PLOT.high}`, role: "img", "aria-label": title }, null);
   parent.appendChild(svg);
-  label(svg, PLOT.left, 16, "start", title, true);
+  label(svg, PLOT.left, 16, "start", title + (DATA.seats.length > 1 ? ", in the colour of the seat" : ""), true);
   const stays = DATA.seats.flatMap(seat => seat.stays.map(stay => ({ stay, colour: COLOURS[seat.seat] })));
   const scale = upward(stays.flatMap(s => s.stay[field]).filter(v => v !== null));
   const base = PLOT.high - PLOT.foot, end = PLOT.wide - PLOT.right;
@@ -39,6 +40,7 @@ function plot(parent, title, field) {
   element("line", { x1: PLOT.left, x2: end, y1: base, y2: base, class: "axis" }, svg);
   const stride = Math.max(1, roundLength(DATA.ticks / 6));
   for (let tick = 0; tick < DATA.ticks; tick += stride) label(svg, across(tick), PLOT.high - 7, "middle", tick);
+  label(svg, PLOT.left - 8, PLOT.high - 7, "end", "step");
   for (const { stay, colour } of stays) curve(svg, stay, field, scale, colour);
   const line = element("line", { y1: PLOT.top - 4, y2: base, class: "mark" }, svg), dots = element("g", {}, svg);
   svg.addEventListener("click", event => {

@@ -70,13 +70,17 @@ function roundLength(most) {
   return ten * ([5, 2, 1].find(k => k * ten <= most) || 1);
 }
 
+let clips = 0;
+
 // One of the two panels of a seat; its `show` draws a frame of a stay, or nothing.
 function panel(svg, left, size, name, axis, room, scale) {
   const [wide, high] = size;
   element("rect", { x: left + 0.5, y: 0.5, width: wide - 1, height: high - 1, rx: 4, class: "panel" }, svg);
   label(svg, left + 8, 17, "start", name);
   label(svg, left + wide - 8, 17, "end", (axis ? "z" : "x") + " \u2192  y \u2191");
-  const group = element("g", {}, svg);
+  const inside = `inside-${axis}-${clips++}`;
+  element("rect", { x: left, y: 0, width: wide, height: high }, element("clipPath", { id: inside }, svg));
+  const group = element("g", { "clip-path": `url(#${inside})` }, svg);
   const middle = k => (room[k] + room[k + 3]) / 2;
   const spot = p => [left + wide / 2 + (p[axis] - middle(axis)) * scale, 22 + (high - 48) / 2 - (p[1] - middle(1)) * scale];
   const joined = spots => spots.map(s => s[0].toFixed(1) + "," + s[1].toFixed(1)).join(" ");
@@ -115,14 +119,16 @@ function seatView(seat, parent, large) {
   const room = seat.room || [0, 0, 0, 1, 1, 1], fits = [size[0] - 32, size[1] - 80, size[0] - 32];
   const scale = Math.min(...fits.map((f, k) => f / Math.max(room[k + 3] - room[k], 1e-300)), 1e12);
   const shows = [["front", 0], ["side", 2]].map(([name, axis], k) => panel(svg, k * (size[0] + gap), size, name, axis, room, scale));
+  const bar = element("g", {}, svg);
   if (seat.room) {
     const length = roundLength(size[0] * 0.45 / scale), end = 10 + length * scale, y = size[1] - 10;
-    element("path", { d: `M10 ${y - 4}v8m0 -4H${end}m0 -4v8`, class: "bar" }, svg);
-    label(svg, end + 8, y + 4.5, "start", short(length) + " " + DATA.unit, true);
+    element("path", { d: `M10 ${y - 4}v8m0 -4H${end}m0 -4v8`, class: "bar" }, bar);
+    label(bar, end + 8, y + 4.5, "start", short(length) + " " + DATA.unit, true);
   }
   return tick => {
     const stay = seat.stays.find(s => s.frame(tick) >= 0), frame = stay ? stay.frame(tick) : -1;
     shows.forEach(show => show(stay, frame));
+    bar.setAttribute("visibility", stay ? "visible" : "hidden");
     small.textContent = stay ? `${stay.n} vertices, step ${frame}` : "empty";
     numbers.textContent = !stay ? "" : stay.energy[frame] === null ? "as loaded"
       : `energy ${short(stay.energy[frame])} \u00b7 ${stay.count[frame]} iterations \u00b7 moved ${short(stay.moved[frame])} ${DATA.unit}`;
