@@ -221,6 +221,21 @@ mod tests {
     }
 
     #[test]
+    fn the_lengths_are_those_of_the_header() {
+        let header = include_str!("../include/hairbench.h");
+        for (name, length) in [
+            ("SEATS", SEATS),
+            ("VERTICES", crate::VERTICES),
+            ("REST", REST),
+            ("DRAPE", DRAPE),
+            ("PINS", PINS),
+            ("WORK", WORK),
+        ] {
+            assert!(header.contains(&format!("#define HAIRBENCH_{name} {length}\n")), "{name}");
+        }
+    }
+
+    #[test]
     fn areas_of_a_wrong_length_are_refused_with_1() {
         let mut pins = [7u8; PINS];
         assert_eq!(pin(Record::default(), &mut pins[1..], 0, (0, 0), 1), 1);

@@ -2,19 +2,10 @@
 
 use hairbench::{Bench, Component, Kind, Pick, Refusal, Settings, StepReport, Strand, SEATS};
 
-const SETTINGS: Settings = Settings {
-    stiff_length: 0.0,
-    stiff_bendtwist: [0.0; 3],
-    conv_ratio: 1.0 / 1024.0,
-};
+const SETTINGS: Settings = Settings { stiff_length: 0.0, stiff_bendtwist: [0.0; 3], conv_ratio: 1.0 / 1024.0 };
 const POSITIONS: [f64; 6] = [0.0, 0.0, 0.0, 1.0, 0.0, 0.0];
 const FRAMES: [f64; 6] = [0.0, 1.0, 0.0, 0.0, 1.0, 0.0];
-const EDGE: Strand = Strand {
-    n: 2,
-    settings: SETTINGS,
-    positions: &POSITIONS,
-    frames: &FRAMES,
-};
+const EDGE: Strand = Strand { n: 2, settings: SETTINGS, positions: &POSITIONS, frames: &FRAMES };
 
 fn loaded(seat: usize) -> Bench {
     let mut bench = Bench::new();
@@ -49,14 +40,7 @@ fn straight(n: usize) -> (Vec<f64>, Vec<f64>) {
 fn p7_a_vertex_follows_its_pick() {
     let mut bench = loaded(0);
     let step = bench.step_static(0, pull([0.5, 0.0, 0.0]));
-    assert_eq!(
-        step,
-        Ok(StepReport {
-            energy: 0.0,
-            count: 1,
-            ratio: 0.0
-        })
-    );
+    assert_eq!(step, Ok(StepReport { energy: 0.0, count: 1, ratio: 0.0 }));
     let expected: &[f64] = &[0.0, 0.0, 0.0, 0.5, 0.0, 0.0];
     assert_eq!(bench.look(0, Kind::DrapePositions), Ok(expected));
     assert_eq!(bench.look(0, Kind::RestPositions), Ok(&POSITIONS[..]));
@@ -82,57 +66,27 @@ fn p10_a_pinned_vertex_stays() {
         assert!(bench.is_pinned(0, 1, component));
     }
     let step = bench.step_static(0, pull([0.5, 0.0, 0.0]));
-    assert_eq!(
-        step,
-        Ok(StepReport {
-            energy: 0.0,
-            count: 0,
-            ratio: 0.0
-        })
-    );
+    assert_eq!(step, Ok(StepReport { energy: 0.0, count: 0, ratio: 0.0 }));
     assert_eq!(bench.look(0, Kind::DrapePositions), Ok(&POSITIONS[..]));
 }
 
 #[test]
 fn a_solve_that_divides_0_by_0() {
     let mut bench = Bench::new();
-    let settings = Settings {
-        conv_ratio: 0.0,
-        ..SETTINGS
-    };
-    bench
-        .load(0, &Strand { settings, ..EDGE })
-        .expect("a ratio of 0 is allowed");
+    let settings = Settings { conv_ratio: 0.0, ..SETTINGS };
+    bench.load(0, &Strand { settings, ..EDGE }).expect("a ratio of 0 is allowed");
     let refusal = refused(&mut bench, |b| b.step_static(0, pull([0.5, 0.0, 0.0])));
     assert_eq!(refusal, Refusal::Solution);
 }
 
 #[test]
 fn a_strand_has_2_to_32_vertices() {
-    for (n, answer) in [
-        (1, Err(Refusal::Count)),
-        (2, Ok(())),
-        (32, Ok(())),
-        (33, Err(Refusal::Count)),
-    ] {
+    for (n, answer) in [(1, Err(Refusal::Count)), (2, Ok(())), (32, Ok(())), (33, Err(Refusal::Count))] {
         let (positions, frames) = straight(n);
-        let strand = Strand {
-            n,
-            settings: SETTINGS,
-            positions: &positions,
-            frames: &frames,
-        };
+        let strand = Strand { n, settings: SETTINGS, positions: &positions, frames: &frames };
         assert_eq!(Bench::new().load(0, &strand), answer, "{n} vertices");
     }
-    let refusal = refused(&mut Bench::new(), |b| {
-        b.load(
-            0,
-            &Strand {
-                frames: &FRAMES[..5],
-                ..EDGE
-            },
-        )
-    });
+    let refusal = refused(&mut Bench::new(), |b| b.load(0, &Strand { frames: &FRAMES[..5], ..EDGE }));
     assert_eq!(refusal, Refusal::Count);
 }
 
@@ -142,10 +96,7 @@ fn the_last_seat_works_and_the_next_is_none() {
     assert_eq!(bench.count(5), 2);
     assert_eq!(bench.settings(5), Some(SETTINGS));
     assert_eq!(refused(&mut bench, |b| b.load(6, &EDGE)), Refusal::NoSuchSeat);
-    assert_eq!(
-        refused(&mut bench, |b| b.step_static(usize::MAX, None)),
-        Refusal::NoSuchSeat
-    );
+    assert_eq!(refused(&mut bench, |b| b.step_static(usize::MAX, None)), Refusal::NoSuchSeat);
     assert_eq!((bench.count(6), bench.settings(6)), (0, None));
 }
 
@@ -154,10 +105,7 @@ fn taken_and_empty_seats() {
     let mut bench = loaded(2);
     assert_eq!(refused(&mut bench, |b| b.load(2, &EDGE)), Refusal::SeatState);
     assert_eq!(refused(&mut bench, |b| b.unload(1)), Refusal::SeatState);
-    assert_eq!(
-        refused(&mut bench, |b| b.step_dynamic(1, None, 0.1)),
-        Refusal::SeatState
-    );
+    assert_eq!(refused(&mut bench, |b| b.step_dynamic(1, None, 0.1)), Refusal::SeatState);
     assert_eq!(bench.look(1, Kind::Velocities), Err(Refusal::SeatState));
     assert_eq!(bench.unload(2), Ok(()));
     assert_eq!(kept(&bench), kept(&Bench::new()));
@@ -166,50 +114,20 @@ fn taken_and_empty_seats() {
 #[test]
 fn vertices_numbers_and_edges() {
     let mut bench = loaded(0);
-    assert_eq!(
-        refused(&mut bench, |b| b.pin(0, 2, Component::Twist, true)),
-        Refusal::Index
-    );
-    let far = Some(Pick {
-        vertex: 2,
-        goal: [0.0; 3],
-    });
+    assert_eq!(refused(&mut bench, |b| b.pin(0, 2, Component::Twist, true)), Refusal::Index);
+    let far = Some(Pick { vertex: 2, goal: [0.0; 3] });
     assert_eq!(refused(&mut bench, |b| b.step_static(0, far)), Refusal::Index);
-    assert_eq!(
-        refused(&mut bench, |b| b.step_static(0, pull([f64::NAN, 0.0, 0.0]))),
-        Refusal::Number
-    );
+    assert_eq!(refused(&mut bench, |b| b.step_static(0, pull([f64::NAN, 0.0, 0.0]))), Refusal::Number);
     assert_eq!(refused(&mut bench, |b| b.step_dynamic(0, None, 0.0)), Refusal::Number);
-    assert_eq!(
-        refused(&mut bench, |b| b.load(
-            1,
-            &Strand {
-                positions: &[0.0; 6],
-                ..EDGE
-            }
-        )),
-        Refusal::Edge
-    );
-    assert_eq!(
-        refused(&mut bench, |b| b.step_static(0, pull([1.0e308, 0.0, 0.0]))),
-        Refusal::System
-    );
+    assert_eq!(refused(&mut bench, |b| b.load(1, &Strand { positions: &[0.0; 6], ..EDGE })), Refusal::Edge);
+    assert_eq!(refused(&mut bench, |b| b.step_static(0, pull([1.0e308, 0.0, 0.0]))), Refusal::System);
 }
 
 #[test]
 fn what_the_work_area_holds_changes_nothing() {
     let (positions, frames) = straight(9);
-    let settings = Settings {
-        stiff_length: 2.0,
-        stiff_bendtwist: [0.5; 3],
-        conv_ratio: 1.0e-10,
-    };
-    let strand = Strand {
-        n: 9,
-        settings,
-        positions: &positions,
-        frames: &frames,
-    };
+    let settings = Settings { stiff_length: 2.0, stiff_bendtwist: [0.5; 3], conv_ratio: 1.0e-10 };
+    let strand = Strand { n: 9, settings, positions: &positions, frames: &frames };
     let run = |garbage: &[f64]| {
         let mut bench = Bench::new();
         bench.load(4, &strand).expect("a good strand");
@@ -218,15 +136,8 @@ fn what_the_work_area_holds_changes_nothing() {
         for k in 0..6 {
             let held = garbage.iter().cycle();
             bench.work_mut().iter_mut().zip(held).for_each(|(w, g)| *w = *g);
-            let pick = Some(Pick {
-                vertex: 8,
-                goal: [8.0, 3.0, 1.0],
-            });
-            steps.push(if k % 2 == 0 {
-                bench.step_dynamic(4, pick, 0.25)
-            } else {
-                bench.step_static(4, pick)
-            });
+            let pick = Some(Pick { vertex: 8, goal: [8.0, 3.0, 1.0] });
+            steps.push(if k % 2 == 0 { bench.step_dynamic(4, pick, 0.25) } else { bench.step_static(4, pick) });
         }
         (steps, bench.strand_bits(4))
     };

@@ -17,7 +17,7 @@ pub fn laid(words: &mut Words, reader: Reader) -> Result<Laid, String> {
         }
         "curl" => {
             let (n, length) = size(words)?;
-            let (radius, turns) = (words.number_key("radius", 1.0)?, words.number_key("turns", 3.0)?);
+            let (radius, turns) = (words.number_key("radius", 0.5)?, words.number_key("turns", 3.0)?);
             curl(n, length, radius, turns, axis(words)?)?
         }
         "from" => {

@@ -1,15 +1,22 @@
 //! Runs a script on the six-seat hair bench.
 
 mod calls;
+#[cfg(test)]
+mod checks;
 mod json;
 mod laying;
+mod notes;
 mod output;
 mod pack;
 mod page;
 mod parse;
+#[cfg(test)]
+mod parse_tests;
 mod picture;
 mod progress;
 mod run;
+#[cfg(test)]
+mod run_tests;
 mod scene;
 mod script;
 mod shapes;

@@ -46,7 +46,7 @@ fn fresh(before: &[Statement], action: Action) -> Result<Action, String> {
 fn action(text: &str, reader: Reader) -> Result<Action, String> {
     let mut words = Words::new(text)?;
     let action = match words.word("a statement")? {
-        "unit" => Action::Unit(words.word("a unit")?.to_string()),
+        "unit" => Action::Unit(unit(words.word("a unit")?)?),
         "load" => Action::Load { seat: words.seat()?, laid: laid(&mut words, reader)? },
         "unload" => Action::Unload { seat: words.seat()? },
         "pin" => pin(&mut words, true)?,
@@ -68,6 +68,13 @@ fn action(text: &str, reader: Reader) -> Result<Action, String> {
     };
     words.end()?;
     Ok(action)
+}
+
+fn unit(word: &str) -> Result<String, String> {
+    match word.chars().count() {
+        0..=12 => Ok(word.to_string()),
+        _ => Err(format!("`{word}` is longer than 12 letters")),
+    }
 }
 
 fn pin(words: &mut Words, pinned: bool) -> Result<Action, String> {

@@ -1,5 +1,6 @@
 //! Drawings of strands: rest light, drape dark, from the front and from the side.
 
+use crate::notes::notes;
 use crate::scene::Scene;
 use crate::shapes::Point;
 use crate::svg::{Sheet, Side, Spot, DRAPE, FAINT, INK, REST};
@@ -61,33 +62,6 @@ fn counted(count: usize, what: &str) -> String {
 
 fn summary(scene: &Scene) -> String {
     format!("{} vertices, after {}", scene.rest.len(), counted(scene.steps, "step"))
-}
-
-/// What is pinned and picked, in words.
-fn notes(scene: &Scene, unit: &str) -> Vec<String> {
-    let held: Vec<String> = scene.pins.iter().enumerate().filter_map(|(v, pins)| held(v, pins)).collect();
-    let pinned = match held.len() {
-        0 => "Nothing is pinned.".to_string(),
-        1..=6 => format!("Pinned: {}.", held.join(", ")),
-        more => format!("Pinned: {}, and {} more vertices.", held[..5].join(", "), more - 5),
-    };
-    let picked = scene.pick.map_or("Nothing is picked.".to_string(), |pick| {
-        let [x, y, z] = pick.goal.map(short);
-        format!("Picked: vertex {}, pulled to ({x}, {y}, {z}) {unit}.", pick.vertex)
-    });
-    vec![pinned, picked]
-}
-
-fn held(vertex: usize, pins: &[bool; 4]) -> Option<String> {
-    let names = match pins {
-        [false, false, false, false] => return None,
-        [true, true, true, true] => "position and twist".to_string(),
-        [true, true, true, false] => "position".to_string(),
-        some => {
-            ["x", "y", "z", "twist"].into_iter().zip(some).filter(|p| *p.1).map(|p| p.0).collect::<Vec<_>>().join(" ")
-        }
-    };
-    Some(format!("vertex {vertex} ({names})"))
 }
 
 fn strand(sheet: &mut Sheet, cell: &Cell, scene: &Scene, unit: &str) {

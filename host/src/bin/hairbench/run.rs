@@ -6,10 +6,10 @@ use crate::page;
 use crate::picture;
 use crate::progress::Progress;
 use crate::scene::{scene, scenes};
-use crate::script::{Action, Fault, Statement, Who, STEPS_A_SECOND};
+use crate::script::{Action, Fault, Laid, Statement, Who, STEPS_A_SECOND};
 use crate::table::{Row, Table};
 use crate::timeline::{taken, Stepped, Timeline};
-use hairbench::{Bench, Pick, Refusal, SEATS};
+use hairbench::{Bench, Component, Kind, Pick, Refusal, SEATS};
 
 pub struct Run {
     pub bench: Bench,
@@ -53,22 +53,11 @@ impl Run {
         let line = statement.line;
         match &statement.action {
             Action::Unit(unit) => self.unit = unit.clone(),
-            Action::Load { seat, laid } => {
-                self.simple(line, "load", *seat, Call::Load(laid.clone()))?;
-                self.timeline.seating_tick(line);
-                self.timeline.begin(&self.bench, *seat);
-            }
-            Action::Unload { seat } => {
-                self.simple(line, "unload", *seat, Call::Unload)?;
-                self.held[*seat] = None;
-                self.timeline.seating_tick(line);
-                self.timeline.end(*seat);
-            }
+            Action::Load { seat, laid } => self.load(line, *seat, laid)?,
+            Action::Unload { seat } => self.unload(line, *seat)?,
             Action::Pin { seat, vertex, components, pinned } => {
                 for &component in components {
-                    let call = Call::Pin { vertex: *vertex, component, pinned: *pinned };
-                    let name = format!("{} {vertex} {component:?}", if *pinned { "pin" } else { "free" });
-                    self.simple(line, &name.to_lowercase(), *seat, call)?;
+                    self.pin(line, *seat, *vertex, component, *pinned)?;
                 }
             }
             Action::Pick { seat, pick } => self.pick(line, *seat, *pick)?,
@@ -83,15 +72,44 @@ impl Run {
                 let dt = 1.0 / STEPS_A_SECOND as f64;
                 self.steps(statement, *who, *steps, -1.0, |pick| Call::Dynamic(pick, dt))?
             }
-            Action::Look { seat, kind } => {
-                let told = self.simple(line, "look", *seat, Call::Look(*kind))?;
-                if let Told::Numbers(numbers) = told {
-                    let points: Vec<_> = numbers.chunks_exact(3).map(|p| [p[0], p[1], p[2]]).collect();
-                    self.table.points(&points);
-                }
-            }
+            Action::Look { seat, kind } => self.look(line, *seat, *kind)?,
             Action::Draw { file, who } => self.draw(line, file, *who)?,
             Action::Play { file, who } => self.play(line, file, *who)?,
+        }
+        Ok(())
+    }
+
+    fn load(&mut self, line: usize, seat: usize, laid: &Laid) -> Result<(), Refusal> {
+        self.simple(line, "load", seat, Call::Load(laid.clone()))?;
+        self.timeline.seating_tick(line);
+        self.timeline.begin(&self.bench, seat);
+        Ok(())
+    }
+
+    fn unload(&mut self, line: usize, seat: usize) -> Result<(), Refusal> {
+        self.simple(line, "unload", seat, Call::Unload)?;
+        self.held[seat] = None;
+        self.timeline.seating_tick(line);
+        self.timeline.end(seat);
+        Ok(())
+    }
+
+    fn pin(
+        &mut self,
+        line: usize,
+        seat: usize,
+        vertex: usize,
+        component: Component,
+        pinned: bool,
+    ) -> Result<(), Refusal> {
+        let name = format!("{} {vertex} {component:?}", if pinned { "pin" } else { "free" });
+        self.simple(line, &name.to_lowercase(), seat, Call::Pin { vertex, component, pinned }).map(|_| ())
+    }
+
+    fn look(&mut self, line: usize, seat: usize, kind: Kind) -> Result<(), Refusal> {
+        if let Told::Numbers(numbers) = self.simple(line, "look", seat, Call::Look(kind))? {
+            let points: Vec<_> = numbers.chunks_exact(3).map(|p| [p[0], p[1], p[2]]).collect();
+            self.table.points(&points);
         }
         Ok(())
     }

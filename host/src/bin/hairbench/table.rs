@@ -81,7 +81,7 @@ mod tests {
         let text = row.text();
         assert_eq!(text.len(), HEAD.len());
         for (head, cell) in [("energy", "1.2500e-1"), ("iterations", "12"), ("ratio", "1.0000e-9"), ("moved", "0")] {
-            let end = HEAD.find(head).expect("a head") + head.len();
+            let end = HEAD.rfind(head).expect("a head") + head.len();
             assert!(text[..end].ends_with(cell), "{head}");
         }
         assert!(text.starts_with("   7  settle, 12 steps"));

@@ -19,7 +19,7 @@ A script has one statement a line; what follows a # is a comment. Seats are 0 to
 
   unit WORD                          what lengths are called in pictures (default: units)
   load SEAT straight [KEY=VALUE..]   a straight strand: vertices=16 length=12 origin=0,0,0 direction=0,-1,0
-  load SEAT curl [KEY=VALUE..]       a helix: as straight, and radius=1 turns=3; the length is along the curve
+  load SEAT curl [KEY=VALUE..]       a helix: as straight, and radius=0.5 turns=3; the length is along the curve
   load SEAT from FILE [KEY=VALUE..]  positions from a file, three numbers a line; frames=FILE for its frames
        every load also takes         stretch=2 bend=10 (or bend=A,B,C) ratio=1e-8
   unload SEAT

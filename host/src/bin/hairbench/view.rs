@@ -69,7 +69,7 @@ pub fn short(x: f64) -> String {
         return "0".to_string();
     }
     let digits = 3 - x.abs().log10().floor() as i32;
-    if !(-3..=9).contains(&digits) {
+    if !(-1..=7).contains(&digits) {
         return format!("{x:.3e}");
     }
     let text = format!("{x:.*}", digits.max(0) as usize);
