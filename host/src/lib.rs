@@ -24,8 +24,10 @@
 
 #![deny(missing_docs)]
 #![deny(unsafe_op_in_unsafe_fn)]
+#![deny(unsafe_code)]
 
 mod bench;
+#[allow(unsafe_code)]
 mod ffi;
 mod parts;
 mod refusal;

@@ -150,7 +150,7 @@ fn the_evening() {
     let said = text(&output.stdout);
     assert_eq!(output.status.code(), Some(0), "{}", text(&output.stderr));
     assert_eq!(said.matches("bit for bit").count(), 6, "{said}");
-    for name in ["strand.svg", "evening.svg", "evening.html", "strand.html"] {
+    for name in ["strand.svg", "evening.svg", "evening.html", "curl.html"] {
         assert!(folder.join(name).exists(), "{name}");
     }
     fs::remove_dir_all(folder).expect("the test's folder");

@@ -1,5 +1,7 @@
 //! Runs a script on the six-seat hair bench.
 
+#![forbid(unsafe_code)]
+
 mod calls;
 #[cfg(test)]
 mod checks;
@@ -30,6 +32,7 @@ mod words;
 
 use std::fs;
 use std::process::ExitCode;
+use table::say;
 use usage::{asked, Asked, Options, HELP};
 
 fn main() -> ExitCode {
@@ -39,11 +42,11 @@ fn main() -> ExitCode {
             ExitCode::from(2)
         }
         Ok(Asked::Help) => {
-            print!("{HELP}");
+            say(HELP.trim_end());
             ExitCode::SUCCESS
         }
         Ok(Asked::Version) => {
-            println!("hairbench {}", env!("CARGO_PKG_VERSION"));
+            say(concat!("hairbench ", env!("CARGO_PKG_VERSION")));
             ExitCode::SUCCESS
         }
         Ok(Asked::Run(options)) => match whole(&options) {
@@ -73,7 +76,7 @@ fn whole(options: &Options) -> Result<(), Vec<String>> {
     }
     let paths = output::write(&options.out, &run.outputs).map_err(|e| vec![e])?;
     if !options.quiet {
-        paths.iter().for_each(|path| println!("wrote {}", path.display()));
+        paths.iter().for_each(|path| say(&format!("wrote {}", path.display())));
     }
     Ok(())
 }
@@ -81,7 +84,7 @@ fn whole(options: &Options) -> Result<(), Vec<String>> {
 /// A line for each seat; an error where a solo run differs.
 fn compared(run: &run::Run) -> Result<(), Vec<String>> {
     let verdicts = solo::compare(&run.made, &run.bench);
-    verdicts.iter().for_each(|verdict| println!("{}", solo::line(verdict)));
+    verdicts.iter().for_each(|verdict| say(&solo::line(verdict)));
     match verdicts.iter().all(|verdict| verdict.difference.is_none()) {
         true => Ok(()),
         false => Err(vec!["hairbench: a seat's solo run differs".to_string()]),

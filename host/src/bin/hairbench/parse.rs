@@ -6,7 +6,7 @@ use crate::words::Words;
 use hairbench::{Component, Kind, Pick};
 
 /// The most steps that a line may ask for.
-const MOST_STEPS: usize = 100_000;
+const MOST_STEPS: usize = 20_000;
 
 /// The statements of a script, or what is wrong with its lines. Files are read through `reader`.
 pub fn parse(text: &str, reader: Reader) -> Result<Vec<Statement>, Vec<Fault>> {

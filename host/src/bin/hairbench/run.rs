@@ -161,6 +161,9 @@ impl Run {
             Who::Seat(seat) => vec![seat],
             Who::All => taken(&self.bench),
         };
+        if seats.is_empty() {
+            self.row(line, name, None, "no strand".to_string(), None);
+        }
         let mut going = seats.clone();
         let mut last: [(usize, Option<Stepped>); SEATS] = [(0, None); SEATS];
         for step in 0..steps {

@@ -49,23 +49,27 @@ impl Table {
 
     pub fn row(&mut self, row: &Row) {
         if !std::mem::replace(&mut self.headed, true) {
-            self.say(HEAD);
+            self.print(HEAD);
         }
-        self.say(&row.text());
+        self.print(&row.text());
     }
 
     pub fn points(&mut self, points: &[Point]) {
         for (v, [x, y, z]) in points.iter().enumerate() {
-            self.say(&format!("      vertex {v:>2}  {x:>24}  {y:>24}  {z:>24}"));
+            self.print(&format!("      vertex {v:>2}  {x:>24}  {y:>24}  {z:>24}"));
         }
     }
 
-    /// A closed pipe is no reason to stop.
-    fn say(&self, text: &str) {
+    fn print(&self, text: &str) {
         if !self.quiet {
-            let _ = writeln!(std::io::stdout(), "{text}");
+            say(text);
         }
     }
+}
+
+/// Prints a line; a closed pipe is no reason to stop.
+pub fn say(text: &str) {
+    let _ = writeln!(std::io::stdout(), "{text}");
 }
 
 #[cfg(test)]

@@ -8,7 +8,8 @@ function across(tick) {
 
 // A scale of decades where the values span more than three, else from 0 up.
 function upward(values) {
-  const most = Math.max(...values, 0), least = Math.min(...values.filter(v => v > 0), most);
+  const most = values.reduce((a, b) => Math.max(a, b), 0);
+  const least = values.reduce((a, b) => b > 0 ? Math.min(a, b) : a, most);
   const high = PLOT.high - PLOT.top - PLOT.foot, base = PLOT.high - PLOT.foot;
   if (most > 0 && most / least > 1000) {
     const top = Math.ceil(Math.log10(most)), low = Math.max(Math.floor(Math.log10(least)), top - 12);
