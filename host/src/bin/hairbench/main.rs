@@ -23,6 +23,7 @@ mod scene;
 mod script;
 mod shapes;
 mod solo;
+mod steps;
 mod svg;
 mod table;
 mod timeline;

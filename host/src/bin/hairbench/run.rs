@@ -7,19 +7,20 @@ use crate::picture;
 use crate::progress::Progress;
 use crate::scene::{scene, scenes};
 use crate::script::{Action, Fault, Laid, Statement, Who, STEPS_A_SECOND};
+use crate::steps::Rounds;
 use crate::table::{Row, Table};
-use crate::timeline::{taken, Stepped, Timeline};
+use crate::timeline::{Stepped, Timeline};
 use hairbench::{Bench, Component, Kind, Pick, Refusal, SEATS};
 
 pub struct Run {
     pub bench: Bench,
     pub made: Vec<Made>,
     pub outputs: Vec<Output>,
-    timeline: Timeline,
-    held: [Option<Pick>; SEATS],
+    pub timeline: Timeline,
+    pub held: [Option<Pick>; SEATS],
+    pub progress: Progress,
     unit: String,
     table: Table,
-    progress: Progress,
 }
 
 impl Run {
@@ -55,22 +56,19 @@ impl Run {
             Action::Unit(unit) => self.unit = unit.clone(),
             Action::Load { seat, laid } => self.load(line, *seat, laid)?,
             Action::Unload { seat } => self.unload(line, *seat)?,
-            Action::Pin { seat, vertex, components, pinned } => {
-                for &component in components {
-                    self.pin(line, *seat, *vertex, component, *pinned)?;
-                }
-            }
+            Action::Pin { seat, vertex, components, pinned } => self.pin(line, *seat, *vertex, components, *pinned)?,
             Action::Pick { seat, pick } => self.pick(line, *seat, *pick)?,
             Action::Drop { seat } => {
                 let answer = if self.held[*seat].take().is_some() { "dropped" } else { "nothing held" };
                 self.row(line, "drop", Some(*seat), answer.to_string(), None);
             }
             Action::Settle { who, steps, tolerance } => {
-                self.steps(statement, *who, *steps, *tolerance, Call::Static)?
+                let rounds = Rounds { statement, most: *steps, tolerance: *tolerance, call: &Call::Static };
+                self.steps(*who, &rounds)?
             }
             Action::Move { who, steps } => {
-                let dt = 1.0 / STEPS_A_SECOND as f64;
-                self.steps(statement, *who, *steps, -1.0, |pick| Call::Dynamic(pick, dt))?
+                let call = |pick| Call::Dynamic(pick, 1.0 / STEPS_A_SECOND as f64);
+                self.steps(*who, &Rounds { statement, most: *steps, tolerance: 0.0, call: &call })?
             }
             Action::Look { seat, kind } => self.look(line, *seat, *kind)?,
             Action::Draw { file, who } => self.draw(line, file, *who)?,
@@ -94,16 +92,27 @@ impl Run {
         Ok(())
     }
 
+    /// One call for each component, one row for all.
     fn pin(
         &mut self,
         line: usize,
         seat: usize,
         vertex: usize,
-        component: Component,
+        components: &[Component],
         pinned: bool,
     ) -> Result<(), Refusal> {
-        let name = format!("{} {vertex} {component:?}", if pinned { "pin" } else { "free" });
-        self.simple(line, &name.to_lowercase(), seat, Call::Pin { vertex, component, pinned }).map(|_| ())
+        let what = match components {
+            [one] => format!("{one:?}").to_lowercase(),
+            [_, _, _] => "position".to_string(),
+            _ => "all".to_string(),
+        };
+        let mut answer = Ok(Told::Nothing);
+        for &component in components {
+            answer = answer.and_then(|_| self.call(seat, Call::Pin { vertex, component, pinned }));
+        }
+        let name = format!("{} {vertex} {what}", if pinned { "pin" } else { "free" });
+        self.row(line, &name, Some(seat), said(&answer), None);
+        answer.map(|_| ())
     }
 
     fn look(&mut self, line: usize, seat: usize, kind: Kind) -> Result<(), Refusal> {
@@ -114,13 +123,13 @@ impl Run {
         Ok(())
     }
 
-    fn call(&mut self, seat: usize, call: Call) -> Answer {
+    pub fn call(&mut self, seat: usize, call: Call) -> Answer {
         let answer = perform(&mut self.bench, seat, &call);
         self.made.push(Made { seat, call, answer: answer.clone() });
         answer
     }
 
-    fn row(&mut self, line: usize, call: &str, seat: Option<usize>, answer: String, step: Option<Stepped>) {
+    pub fn row(&mut self, line: usize, call: &str, seat: Option<usize>, answer: String, step: Option<Stepped>) {
         self.progress.clear();
         self.table.row(&Row { line, call, seat, answer, step });
     }
@@ -144,69 +153,6 @@ impl Run {
         refusal.map_or(Ok(()), Err)?;
         self.held[seat] = Some(pick);
         Ok(())
-    }
-
-    /// Rounds of steps, one on each seat, until each has moved less than the tolerance in a step.
-    fn steps(
-        &mut self,
-        statement: &Statement,
-        who: Who,
-        steps: usize,
-        tolerance: f64,
-        call: impl Fn(Option<Pick>) -> Call,
-    ) -> Result<(), Refusal> {
-        let line = statement.line;
-        let name = statement.text.split(' ').next().unwrap_or("");
-        let seats = match who {
-            Who::Seat(seat) => vec![seat],
-            Who::All => taken(&self.bench),
-        };
-        if seats.is_empty() {
-            self.row(line, name, None, "no strand".to_string(), None);
-        }
-        let mut going = seats.clone();
-        let mut last: [(usize, Option<Stepped>); SEATS] = [(0, None); SEATS];
-        for step in 0..steps {
-            if going.is_empty() {
-                break;
-            }
-            self.timeline.step_tick(line, &statement.text);
-            self.progress.show(line, step, steps);
-            for seat in std::mem::take(&mut going) {
-                let stepped = self.step(line, name, seat, &call)?;
-                last[seat] = (step + 1, Some(stepped));
-                if stepped.moved >= tolerance {
-                    going.push(seat);
-                }
-            }
-        }
-        for seat in seats {
-            let (count, step) = last[seat];
-            let plural = if count == 1 { "" } else { "s" };
-            self.row(line, &format!("{name}, {count} step{plural}"), Some(seat), "accepted".to_string(), step);
-        }
-        Ok(())
-    }
-
-    fn step(
-        &mut self,
-        line: usize,
-        name: &str,
-        seat: usize,
-        call: impl Fn(Option<Pick>) -> Call,
-    ) -> Result<Stepped, Refusal> {
-        let pick = self.held[seat];
-        match self.call(seat, call(pick)) {
-            Ok(Told::Step(report)) => {
-                let moved = self.timeline.note(&self.bench, seat, pick, report);
-                Ok(Stepped { report, moved })
-            }
-            Ok(_) => unreachable!("a step is told as a step"),
-            Err(refusal) => {
-                self.row(line, name, Some(seat), said(&Err(refusal)), None);
-                Err(refusal)
-            }
-        }
     }
 
     fn draw(&mut self, line: usize, file: &str, who: Who) -> Result<(), Refusal> {
@@ -240,7 +186,7 @@ impl Run {
     }
 }
 
-fn said(answer: &Answer) -> String {
+pub fn said(answer: &Answer) -> String {
     match answer {
         Ok(Told::Numbers(numbers)) => format!("{} numbers", numbers.len()),
         Ok(_) => "accepted".to_string(),
