@@ -100,6 +100,19 @@ mod tests {
     }
 
     #[test]
+    fn y_points_up_and_x_or_z_to_the_right() {
+        let bounds = Bounds { low: [0.0; 3], high: [2.0; 3] };
+        for axis in [0, 2] {
+            let view = View { axis, bounds, scale: 10.0, middle: [50.0, 40.0] };
+            assert_eq!(view.at([1.0; 3]), [50.0, 40.0]);
+            assert_eq!(view.at([1.0, 2.0, 1.0]), [50.0, 30.0]);
+            let mut aside = [1.0; 3];
+            aside[axis] = 2.0;
+            assert_eq!(view.at(aside), [60.0, 40.0]);
+        }
+    }
+
+    #[test]
     fn both_views_fit_their_panels() {
         let points = [[0.0, 0.0, 0.0], [1.0, -4.0, 9.0], [-3.0, 2.0, 1.0]];
         let bounds = Bounds::of(points).expect("points");
