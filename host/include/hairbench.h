@@ -2,7 +2,9 @@
  *
  * The bench owns no memory. The caller keeps the record and lends four areas to each call, as a pointer and a
  * length. An area may have any length and hold any bits; a wrong length is refused. Pointers are not null, and areas that are
- * lent together do not overlap. No call keeps a pointer, allocates, or calls back. */
+ * lent together do not overlap. No call keeps a pointer, allocates, or calls back.
+ *
+ * Link with -lm: the library takes fmod from there, and memcpy and memset from the C library. */
 #ifndef HAIRBENCH_H
 #define HAIRBENCH_H
 

@@ -8,7 +8,7 @@ pub struct Settings {
     pub stiff_length: f64,
     /// The stiffnesses against the two bends and the twist.
     pub stiff_bendtwist: [f64; 3],
-    /// The squared residual over the first one, below which the solve of a step ends.
+    /// A solve ends once the residual's length, over that of the first residual, is below it.
     pub conv_ratio: f64,
 }
 
