@@ -76,8 +76,7 @@ fn edge_fits(positions: &[f64], i: usize) -> bool
 {
     let p0 = rows::load3(positions, 3 * i);
     let p1 = rows::load3(positions, 3 * i + 3);
-    let length = edge3::length(p0, p1);
-    length.acceptable
+    edge3::is_acceptable(p0, p1)
 }
 
 // Whether every edge between the n vertices has.

@@ -4,7 +4,7 @@ use crate::area;
 use crate::rows;
 use elements::rod3_darboux;
 use elements::rod3_darboux::EdgeFrame;
-use vectors::vec3;
+use vectors::edge3;
 ghost use mathlib.Core.Path.{_≡_};
 ghost use Prim.Native.Nat.{_+_, _-_, _*_, _≤_, _<_};
 ghost use lib.ListN.{length};
@@ -27,7 +27,8 @@ fn length_at(xyz: &[f64], p: usize, n: usize, i: usize) -> f64
 {
     let p0 = rows::load3(xyz, p + 3 * i);
     let p1 = rows::load3(xyz, p + 3 * i + 3);
-    vec3::norm(vec3::sub(p1, p0))
+    let length = edge3::length(p0, p1);
+    length.value
 }
 
 // The lengths of all edges, of the positions at p, and 0 after them.

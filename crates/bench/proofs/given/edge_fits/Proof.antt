@@ -18,11 +18,11 @@ add-load3 c = search needs
 load3-requires-2 : tie.Need-load3-requires-2
 load3-requires-2 c κs = search needs
 
-length-requires : tie.Need-length-requires
-length-requires c κs = search needs
+is-acceptable-requires : tie.Need-is-acceptable-requires
+is-acceptable-requires c κs = search needs
 
 returns : tie.Need-returns
-returns c = simp (c .length .ensures, c .before .load32 .ensures, c .before .before .load3 .ensures)
+returns c = simp (c .is-acceptable .ensures, c .before .load32 .ensures, c .before .before .load3 .ensures)
 
 pub edge-fits-spec : {M : Type 1} → statement M
 edge-fits-spec =
@@ -33,5 +33,5 @@ edge-fits-spec =
     mul-load3-2
     add-load3
     load3-requires-2
-    length-requires
+    is-acceptable-requires
     returns)

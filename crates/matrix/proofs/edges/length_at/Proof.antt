@@ -2,6 +2,8 @@
 use borrow.Author.Needs.{needs}
 use Prim.Native.Nat.{_+_, _*_}
 use native.Mathlib.Omega.{arith}
+use Rattle.vectors.specs.Vec3.{vec3Norm}
+use Rattle.vectors.specs.Edge.{edgeLength, measuredOf}
 use Rattle.matrix.specs.Edges.{lengthAt}
 use Rattle.matrix.proofs.Shapes.{vec3-at}
 use Rattle.matrix.proofs.edges.length_at.Statement.{statement}
@@ -28,18 +30,15 @@ add-load3-3 c = search needs
 load3-requires-2 : tie.Need-load3-requires-2
 load3-requires-2 c κs = search needs
 
-sub-requires : tie.Need-sub-requires
-sub-requires c κs = search needs
-
-norm-requires : tie.Need-norm-requires
-norm-requires c κs = search needs
+length-requires : tie.Need-length-requires
+length-requires c κs = search needs
 
 returns : tie.Need-returns
-unfolding lengthAt
+unfolding lengthAt edgeLength measuredOf vec3Norm
 returns c =
-    let a = c .before .before .before .before .before .args in
-    let p = c .before .before .before .before .before .pre in
-    simp (c .norm .ensures, c .before .sub .ensures, c .before .before .load32 .ensures, c .before .before .before .load3 .ensures, vec3-at (a .xyz .now) (a .p) (a .n) (a .i) (a .p + 3 * a .i) (omega arith) (omega arith), vec3-at (a .xyz .now) (a .p) (a .n) (a .i + 1) (a .p + 3 * a .i + 3) (omega arith) (omega arith))
+    let a = c .before .before .before .before .args in
+    let p = c .before .before .before .before .pre in
+    simp (c .length .ensures, c .before .load32 .ensures, c .before .before .load3 .ensures, vec3-at (a .xyz .now) (a .p) (a .n) (a .i) (a .p + 3 * a .i) (omega arith) (omega arith), vec3-at (a .xyz .now) (a .p) (a .n) (a .i + 1) (a .p + 3 * a .i + 3) (omega arith) (omega arith))
 
 pub length-at-spec : {M : Type 1} → statement M
 length-at-spec =
@@ -52,6 +51,5 @@ length-at-spec =
     add-load3-2
     add-load3-3
     load3-requires-2
-    sub-requires
-    norm-requires
+    length-requires
     returns)
