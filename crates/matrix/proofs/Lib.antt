@@ -6,6 +6,10 @@ pub mod RowLaws
 pub mod RowPlaces
 pub mod Cases
 pub mod Columns
+pub mod OwnFraction
+pub mod Zeros
+pub mod WholeUnits
+pub mod FromFirst
 pub mod Products
 pub mod Every
 pub mod RowsPut

@@ -20,6 +20,7 @@ use Rattle.matrix.proofs.Widths.{row-of, rows-unstored-as}
 use Rattle.matrix.proofs.RowWidths.{four}
 use Rattle.matrix.proofs.RowLaws.{Stored, unstored}
 use Rattle.matrix.proofs.RowPlaces.{before-le, after-le}
+use Rattle.matrix.proofs.FromFirst.{row-begun}
 
 -- none, one or two products, by where their blocks and rows stand
 module _ (m x : List Float) (a b n : ℕ) (s : Vec4) where
@@ -56,7 +57,7 @@ row-at = row-of four
 
 -- what `row_product` works out
 module _ (n i : ℕ) (row x : List Float) (old : Vec4) (h : i < n) where
-  pub row-times : {s0 s1 s2 r : Vec4} → s0 ≡ vec4Scale old plusZero
+  pub row-times : {s0 s1 s2 r : Vec4} → s0 ≡ vec4Add zeroRow (vec4Scale old plusZero)
       → s1 ≡ addProducts s0 (blocks16 row 0 (before i)) (rows4 x (4 * (i - before i)) (before i))
       → s2 ≡ addProducts s1 (blocks16 row (16 * before i) (after n i)) (rows4 x (4 * (i + 1)) (after n i))
       → r ≡ vec4Add s2 (mat4TimesVec4 (block16 row (16 * (before i + after n i))) (row4 x (4 * i)))
@@ -77,7 +78,7 @@ module _ (n i : ℕ) (row x : List Float) (old : Vec4) (h : i < n) where
         part-rows zeroRow x 0 n (i + 1) (after n i) (4 * (i + 1)) (omega arith) (omega arith),
         block-at zeroBlock row 0 k (before i + after n i) (16 * (before i + after n i)) (omega arith) (omega arith),
         row-at zeroRow x 0 n i (4 * i) h (omega arith),
-      )
+      ) (row-begun old _ _ _ _ _ _)
 
 -- ---- a part of the area lent on its own
 row-part : (w : List Float) (o m k : ℕ) → k + 4 ≤ m → row4 (part w o m) k ≡ row4 w (o + k)

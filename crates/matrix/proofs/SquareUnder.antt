@@ -1,23 +1,24 @@
 -- A number above the rounded square of a positive t has a root that is not below t. Rounding keeps the order, so the number is above the exact square too.
 -- Were its rounded root below t, the root would be nearer to that than to t, and so the number below the square.
 use mathlib.Core.Path.{_≡_, refl, sym, ap, _∙_}
-use mathlib.Core.Bool.{Bool, true, false, _&&_, true≢false}
-use Prim.Native.Nat.{ℕ, zero, suc, _+_, _*_, _%_, _^_, _≤_, _<_}
-use native.Mathlib.Nat.{le-trans, le-of-eq, lt-of-not-le, not-le-of-lt, le-of-suc-le-suc, lt-of-lt-of-le, lt-of-le-of-lt, zero-lt-suc, zero-mul, mul-pos, mul-comm, mul-assoc, mul-left-comm, mul-right-comm, mul-le-mul, mul-le-mul-right, le-of-mul-le-mul-right, mul-lt-mul-of-pos-right, lt-of-mul-lt-mul-right}
+use mathlib.Core.Bool.{Bool, true, false, true≢false}
+use Prim.Native.Nat.{ℕ, zero, suc, _+_, _*_, _^_, _≤_, _<_}
+use native.Mathlib.Nat.{le-trans, le-of-eq, lt-of-not-le, not-le-of-lt, le-of-suc-le-suc, zero-lt-suc, zero-mul, mul-pos, mul-comm, mul-assoc, mul-left-comm, mul-le-mul, mul-le-mul-right, le-of-mul-le-mul-right}
 use native.Mathlib.Omega.{arith}
 use borrow.Author.Tests.{le-ltb}
-use lib.Dec.{T, eqb, leb, ltb, ltb→lt, lt→ltb}
+use lib.Dec.{T, lt→ltb}
 use lib.IntN.{ℤ}
 use lib.Pow.{pow-pos}
 use lib.Ieee.{Float, nan, inf, fin, binary64, low, up, down, fits, ofBits, round, mul, lt, le}
-use lib.Ieee.Fits.{down-pos, and-r}
-use lib.Ieee.Exact.{HasValue, round-exact}
+use lib.Ieee.Fits.{down-pos}
+use lib.Ieee.Exact.{HasValue}
 use lib.Ieee.Order.{round-mono, le-of-values}
 use Rattle.roots.specs.Sqrt.{sqrtOf}
 use Rattle.roots.specs.Correct.{NoNearer}
 use Rattle.roots.proofs.Spacing.{written}
 use Rattle.roots.proofs.Correct.{sqrt-rounded}
 use Rattle.vectors.specs.Number.{_⊗_, plusZero}
+use Rattle.matrix.proofs.OwnFraction.{kept}
 use Rattle.matrix.proofs.FloatOrder.{not-below, infinite}
 
 -- ---- rounded and exact fractions
@@ -28,26 +29,11 @@ value-not-below (inf s) k d v = absurd v
 value-not-below (fin true m e) k d v = absurd (true≢false (v .0))
 value-not-below (fin false m e) k d v = le-ltb (m * up e * down d) (k * up d * down e) (le-of-eq (sym (v .1)))
 
--- a number of the format is what its own fraction rounds to
-kept : (k : ℕ) (d : ℤ) → T (fits binary64 (fin false (suc k) d)) → HasValue (round binary64 false (suc k * up d) (down d)) false (suc k * up d) (down d)
-unfolding fits
-kept k d h =
-    let w = written binary64 false k d h in
-    let j = w .1 .0 in
-    let A = eqb (suc k % 2) 1 in
-    let B = ltb (suc k) (2 ^ 53) in
-    let C = leb (down d) (2 ^ low binary64) in
-    let D = ltb (suc k * up d) (2 ^ 1024 * down d) in
-    let limit : suc k * up d < 2 ^ 1024 * down d = ltb→lt (suc k * up d) (2 ^ 1024 * down d) (and-r (A && B && C) D h) in
-    let grown : suc k * 2 ^ j * down d < 2 ^ 1024 * 2 ^ low binary64 * down d =
-    lt-of-le-of-lt (le-of-eq (sym (w .1 .1))) (lt-of-lt-of-le (mul-lt-mul-of-pos-right limit (pow-pos (low binary64))) (le-of-eq (mul-right-comm (2 ^ 1024) (down d) (2 ^ low binary64)))) in
-    round-exact binary64 false (suc k * up d) (down d) (suc k) j (down-pos d) (w .0) (lt-of-mul-lt-mul-right (down d) grown) (w .1 .1)
-
 -- what is above a rounded fraction is above the fraction
 above-exact : (n c k : ℕ) (d : ℤ) → 0 < c → T (fits binary64 (fin false (suc k) d)) → lt (round binary64 false n c) (fin false (suc k) d) ≡ true → n * down d < suc k * up d * c
 above-exact n c k d C h l = lt-of-not-le λ (g : suc k * up d * c ≤ n * down d).
     let r = round binary64 false (suc k * up d) (down d) in
-    true≢false (sym l ∙ not-below r (round binary64 false n c) (fin false (suc k) d) (round-mono binary64 (suc k * up d) (down d) n c (down-pos d) C g) (value-not-below r (suc k) d (kept k d h)))
+    true≢false (sym l ∙ not-below r (round binary64 false n c) (fin false (suc k) d) (round-mono binary64 (suc k * up d) (down d) n c (down-pos d) C g) (value-not-below r (suc k) d (kept false k d h)))
 
 from-zero : (n c : ℕ) → 0 < c → T (le plusZero (round binary64 false n c))
 unfolding ofBits round

@@ -1,4 +1,5 @@
 -- The product of the matrix and a vector: sparse_square.rs, `mult_vec`, lines 143 to 171, with alpha 1 and beta 0. Multiplying by alpha changes no bit and is left out.
+use mathlib.Core.Path.{_≡_}
 use mathlib.Core.List.{List, [], _∷_}
 use Prim.Native.Nat.{ℕ, _+_, _-_, _*_}
 use lib.ListN.{getD}
@@ -35,3 +36,14 @@ matrixRows l n = table n (λ i. blocks16 l (16 * rowStart n i) (rowLength n i))
 -- The product, row by row, from the old one.
 unfoldable pub multVec : ℕ → List (List Mat4) → List Vec4 → List Vec4 → List Vec4
 multVec n rows xs olds = table n (λ i. rowTimes n i (getD rows i []) xs (getD olds i zeroRow))
+
+-- The product of a block and a row, each entry summed from its first term on and not from +0.
+unfoldable pub timesFromFirst : Mat4 → Vec4 → Vec4
+timesFromFirst a v =
+    let s1 = vec4Add (vec4Scale (a .c0) (v .x)) (vec4Scale (a .c1) (v .y)) in
+    let s2 = vec4Add s1 (vec4Scale (a .c2) (v .z)) in
+    vec4Add s2 (vec4Scale (a .c3) (v .w))
+
+-- No number of v is -0: each stays as it is where it is added to +0.
+abbrev pub NoMinusZero : Vec4 → Type 0
+NoMinusZero v = vec4Add zeroRow v ≡ v

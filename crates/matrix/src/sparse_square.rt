@@ -1,7 +1,7 @@
 // The matrix of blocks: its product with a vector.
 use crate::layout;
 use crate::rows;
-use vectors::mat4;
+use vectors::mat4::Mat4;
 use vectors::vec4;
 use vectors::vec4::Vec4;
 ghost use mathlib.Core.Path.{_≡_};
@@ -12,25 +12,44 @@ ghost use Rattle.vectors.specs.Mat4.{mat4TimesVec4};
 ghost use Rattle.matrix.specs.Parts.{put, Apart};
 ghost use Rattle.matrix.specs.Rows.{row4, rows4, block16, blocks16, flat4};
 ghost use Rattle.matrix.specs.Layout.{rowLength, rowStart, matrixNumbers};
-ghost use Rattle.matrix.specs.SparseSquare.{addProducts, rowTimes, matrixRows, multVec};
+ghost use Rattle.matrix.specs.SparseSquare.{addProducts, rowTimes, matrixRows, multVec, timesFromFirst, NoMinusZero};
+
+// The block a times v. The +0 that the definition's sums begin with is left out: it only makes +0 of
+// a sum that is -0.
+fn block_product(a: Mat4, v: Vec4) -> Vec4
+    ensures { λ r. ⌜ r ≡ timesFromFirst a v ⌝ }
+{
+    let c0 = a.c0;
+    let c1 = a.c1;
+    let c2 = a.c2;
+    let c3 = a.c3;
+    let s1 = vec4::add(vec4::scale(c0, v.x), vec4::scale(c1, v.y));
+    let s2 = vec4::add(s1, vec4::scale(c2, v.z));
+    vec4::add(s2, vec4::scale(c3, v.w))
+}
 
 // s and the product of the block of m that begins at `at` with the row of x that begins at `from`.
+// As s has no -0, its sums with -0 and with +0 are the same.
 fn add_product(m: &[f64], at: usize, x: &[f64], from: usize, s: Vec4) -> Vec4
+    requires { ⌜ NoMinusZero s ⌝ }
     requires { ⌜ at + 16 ≤ length (now m) ⌝ }
     requires { ⌜ from + 4 ≤ length (now x) ⌝ }
     ensures { λ r. ⌜ r ≡ vec4Add s (mat4TimesVec4 (block16 (now (m .entry)) at) (row4 (now (x .entry)) from)) ⌝ }
+    ensures { λ r. ⌜ NoMinusZero r ⌝ }
 {
     let b = rows::load_block(m, at);
     let v = rows::load4(x, from);
-    vec4::add(s, mat4::mult_vec(b, v))
+    vec4::add(s, block_product(b, v))
 }
 
 // y and the products of a row's first `low` blocks with as many rows of x, from `from` on.
 fn add_before(row: &[f64], x: &[f64], from: usize, low: usize, y: Vec4) -> Vec4
+    requires { ⌜ NoMinusZero y ⌝ }
     requires { ⌜ low ≤ 2 ⌝ }
     requires { ⌜ 16 * low ≤ length (now row) ⌝ }
     requires { ⌜ from + 4 * low ≤ length (now x) ⌝ }
     ensures { λ r. ⌜ r ≡ addProducts y (blocks16 (now (row .entry)) 0 low) (rows4 (now (x .entry)) from low) ⌝ }
+    ensures { λ r. ⌜ NoMinusZero r ⌝ }
 {
     if low == 0 {
         return y;
@@ -45,10 +64,12 @@ fn add_before(row: &[f64], x: &[f64], from: usize, low: usize, y: Vec4) -> Vec4
 // The same for `high` blocks, from `at` on. It is a function of its own, since one that is called
 // twice would not be compiled in place.
 fn add_after(row: &[f64], at: usize, x: &[f64], from: usize, high: usize, y: Vec4) -> Vec4
+    requires { ⌜ NoMinusZero y ⌝ }
     requires { ⌜ high ≤ 2 ⌝ }
     requires { ⌜ at + 16 * high ≤ length (now row) ⌝ }
     requires { ⌜ from + 4 * high ≤ length (now x) ⌝ }
     ensures { λ r. ⌜ r ≡ addProducts y (blocks16 (now (row .entry)) at high) (rows4 (now (x .entry)) from high) ⌝ }
+    ensures { λ r. ⌜ NoMinusZero r ⌝ }
 {
     if high == 0 {
         return y;
@@ -60,7 +81,8 @@ fn add_after(row: &[f64], at: usize, x: &[f64], from: usize, high: usize, y: Vec
     add_product(row, at + 16, x, from + 4, s)
 }
 
-// The blocks of row i times the vector x of n rows; `old` is what the product was before.
+// The blocks of row i times the vector x of n rows; `old` is what the product was before. By 0 it may
+// be -0, and not once it is added to +0.
 fn row_product(row: &[f64], x: &[f64], n: usize, i: usize, old: Vec4) -> Vec4
     requires { ⌜ i < n ⌝ }
     requires { ⌜ n ≤ 32 ⌝ }
@@ -70,7 +92,14 @@ fn row_product(row: &[f64], x: &[f64], n: usize, i: usize, old: Vec4) -> Vec4
 {
     let low = layout::count_before(i);
     let high = layout::count_after(n, i);
-    let s0 = vec4::scale(old, 0.0);
+    let zero = Vec4 {
+        x: 0.0,
+        y: 0.0,
+        z: 0.0,
+        w: 0.0,
+    };
+    let by_zero = vec4::scale(old, 0.0);
+    let s0 = vec4::add(zero, by_zero);
     let s1 = add_before(row, x, 4 * (i - low), low, s0);
     let s2 = add_after(row, 16 * low, x, 4 * (i + 1), high, s1);
     add_product(row, 16 * (low + high), x, 4 * i, s2)

@@ -1,0 +1,110 @@
+-- To a row without -0 a block's product may be added that is summed from its first term on, in place of the one from +0 on: the sums are the same. A row begins as the old one by 0, which may be -0.
+-- So +0 is added first, which the first product makes good. Each law is one of proofs/Zeros.antt, number by number.
+use mathlib.Core.Path.{_≡_, refl, sym, ap, _∙_, subst}
+use mathlib.Core.Bool.{true, false}
+use mathlib.Core.Logic.{inl, inr}
+use mathlib.Core.List.{List, [], _∷_}
+use lib.Dec.{T}
+use lib.IntN.{pos}
+use lib.Ieee.{Float, fin, binary64, fits}
+use lib.Ieee.Fits.{add-fits}
+use Rattle.vectors.specs.Number.{_⊕_, plusZero, plusZero-is}
+use Rattle.vectors.specs.Vec4.{vec4Add, vec4Scale}
+use Rattle.vectors.specs.Mat4.{mat4TimesVec4}
+use Rattle.vectors.specs.Fits.{Vec4Fits}
+use Rattle.vectors.specs.declared.vec4.Vec4.{Vec4}
+use Rattle.vectors.specs.declared.mat4.Mat4.{Mat4}
+use Rattle.vectors.proofs.Fitting.{vec4Scale-fits, mat4TimesVec4-fits}
+use Rattle.matrix.specs.Rows.{zeroRow}
+use Rattle.matrix.specs.SparseSquare.{addProducts, timesFromFirst, NoMinusZero}
+use Rattle.matrix.proofs.Zeros.{Alike, alike-plus, alike-sum, plus-turned, plus-zero, opposite-zeros, zero-plus}
+use Rattle.matrix.proofs.WholeUnits.{plus-not-zero}
+
+-- ---- numbers
+sum-kept : (s z : Float) → plusZero ⊕ s ≡ s → T (fits binary64 z) → plusZero ⊕ (s ⊕ z) ≡ s ⊕ z
+sum-kept s z k g = rw plusZero-is (by-sum (zero-plus (s ⊕ z) (add-fits binary64 s z)))
+  where
+    never : s ≡ fin true 0 (pos 0) → ⊥
+    never e = opposite-zeros e (sym k ∙ rw (plusZero-is, e) (plus-zero true))
+
+    by-sum : Alike (s ⊕ z) (fin false 0 (pos 0) ⊕ (s ⊕ z)) → fin false 0 (pos 0) ⊕ (s ⊕ z) ≡ s ⊕ z
+    by-sum (inl e) = sym e
+    by-sum (inr w) = absurd (plus-not-zero s z (subst (λ (x : Float). T (fits binary64 x)) k (add-fits binary64 plusZero s)) g never (w .0))
+
+-- ---- rows
+abbrev AlikeRows : Vec4 → Vec4 → Type 0
+AlikeRows a b = Alike (a .x) (b .x) × Alike (a .y) (b .y) × Alike (a .z) (b .z) × Alike (a .w) (b .w)
+
+rows-plus : {a b : Vec4} (q : Vec4) → AlikeRows a b → AlikeRows (vec4Add a q) (vec4Add b q)
+unfolding vec4Add
+rows-plus q h = (alike-plus (q .x) (h .0), alike-plus (q .y) (h .1), alike-plus (q .z) (h .2), alike-plus (q .w) (h .3))
+
+row-from-zero : (p : Vec4) → Vec4Fits p → AlikeRows p (vec4Add zeroRow p)
+unfolding vec4Add
+row-from-zero p h = rw plusZero-is (zero-plus (p .x) (h .0), zero-plus (p .y) (h .1), zero-plus (p .z) (h .2), zero-plus (p .w) (h .3))
+
+products-plus : {a b : Vec4} (ms : List Mat4) (xs : List Vec4) → AlikeRows a b → AlikeRows (addProducts a ms xs) (addProducts b ms xs)
+unfolding addProducts
+products-plus [] xs h = h
+products-plus (m ∷ ms) [] h = h
+products-plus (m ∷ ms) (x ∷ xs) h = products-plus ms xs (rows-plus (mat4TimesVec4 m x) h)
+
+row-turned : (a b : Vec4) → vec4Add a b ≡ vec4Add b a
+unfolding vec4Add
+row-turned a b = rw (plus-turned (a .x) (b .x), plus-turned (a .y) (b .y), plus-turned (a .z) (b .z), plus-turned (a .w) (b .w)) refl
+
+module _ (q : Vec4) (k : NoMinusZero q) where
+  by-number : (plusZero ⊕ q .x ≡ q .x) × (plusZero ⊕ q .y ≡ q .y) × (plusZero ⊕ q .z ≡ q .z) × (plusZero ⊕ q .w ≡ q .w)
+  unfolding vec4Add
+  by-number = (ap (λ (v : Vec4). v .x) k, ap (λ (v : Vec4). v .y) k, ap (λ (v : Vec4). v .z) k, ap (λ (v : Vec4). v .w) k)
+
+  rows-sum : {a b : Vec4} → AlikeRows a b → vec4Add a q ≡ vec4Add b q
+  unfolding vec4Add
+  rows-sum h = let n = by-number in rw (alike-sum (n .0) (h .0), alike-sum (n .1) (h .1), alike-sum (n .2) (h .2), alike-sum (n .3) (h .3)) refl
+
+  sum-no-minus : (z : Vec4) → Vec4Fits z → NoMinusZero (vec4Add q z)
+  unfolding vec4Add
+  sum-no-minus z h =
+      let n = by-number in
+      rw (
+        sum-kept (q .x) (z .x) (n .0) (h .0),
+        sum-kept (q .y) (z .y) (n .1) (h .1),
+        sum-kept (q .z) (z .z) (n .2) (h .2),
+        sum-kept (q .w) (z .w) (n .3) (h .3),
+      ) refl
+
+zero-no-minus : NoMinusZero zeroRow
+unfolding vec4Add
+zero-no-minus = rw plusZero-is (rw (plus-zero false) refl)
+
+begun-no-minus : (s : Vec4) → Vec4Fits s → NoMinusZero (vec4Add zeroRow s)
+begun-no-minus s h = sum-no-minus zeroRow zero-no-minus s h
+
+-- ---- products
+module _ (a : Mat4) (v : Vec4) where
+  product-alike : AlikeRows (timesFromFirst a v) (mat4TimesVec4 a v)
+  unfolding timesFromFirst mat4TimesVec4
+  product-alike = rows-plus _ (rows-plus _ (rows-plus _ (row-from-zero (vec4Scale (a .c0) (v .x)) (vec4Scale-fits _ _))))
+
+  product-no-minus : NoMinusZero (mat4TimesVec4 a v)
+  unfolding mat4TimesVec4
+  product-no-minus = sum-no-minus _ (sum-no-minus _ (sum-no-minus _ (begun-no-minus _ (vec4Scale-fits _ _)) _ (vec4Scale-fits _ _)) _ (vec4Scale-fits _ _)) _ (vec4Scale-fits _ _)
+
+  -- what `add_product` works out
+  pub product-added : {s r : Vec4} → NoMinusZero s → r ≡ vec4Add s (timesFromFirst a v) → (r ≡ vec4Add s (mat4TimesVec4 a v)) × NoMinusZero r
+  product-added {s} {r} k e =
+      let is : r ≡ vec4Add s (mat4TimesVec4 a v) = e ∙ row-turned s (timesFromFirst a v) ∙ rows-sum s k product-alike ∙ row-turned (mat4TimesVec4 a v) s in
+      (is, rw is (sum-no-minus s k (mat4TimesVec4 a v) (mat4TimesVec4-fits a v)))
+
+-- ---- the beginning of a row, in `row_product`
+module _ (old : Vec4) where
+  abbrev begun : Vec4
+  begun = vec4Add zeroRow (vec4Scale old plusZero)
+
+  pub begins : {s r : Vec4} → s ≡ vec4Scale old plusZero → r ≡ vec4Add zeroRow s → (r ≡ begun) × NoMinusZero r
+  begins e h = let is = h ∙ ap (vec4Add zeroRow) e in (is, rw is (begun-no-minus (vec4Scale old plusZero) (vec4Scale-fits old plusZero)))
+
+  -- from the first product on the row is the one that begins without +0
+  pub row-begun : (ms ns : List Mat4) (xs ys : List Vec4) (a : Mat4) (v : Vec4)
+      → vec4Add (addProducts (addProducts begun ms xs) ns ys) (mat4TimesVec4 a v) ≡ vec4Add (addProducts (addProducts (vec4Scale old plusZero) ms xs) ns ys) (mat4TimesVec4 a v)
+  row-begun ms ns xs ys a v = sym (rows-sum (mat4TimesVec4 a v) (product-no-minus a v) (products-plus ns ys (products-plus ms xs (row-from-zero (vec4Scale old plusZero) (vec4Scale-fits old plusZero)))))
