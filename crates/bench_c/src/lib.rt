@@ -120,6 +120,7 @@ pub extern "C" fn hairbench_unload(
     out.refusal
 }
 
+// One pin byte is written.
 #[no_mangle]
 pub extern "C" fn hairbench_pin(
     record: Record,
@@ -135,6 +136,7 @@ pub extern "C" fn hairbench_pin(
     pin::pin(record, pins, seat, vertex, component, byte)
 }
 
+// What the look with the same inputs is refused with, 0 for none.
 #[no_mangle]
 pub extern "C" fn hairbench_companion(
     record: Record,

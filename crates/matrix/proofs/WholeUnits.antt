@@ -17,7 +17,8 @@ use lib.Ieee.Scale.{finite}
 use Rattle.roots.proofs.Spacing.{written}
 use Rattle.vectors.specs.Number.{_⊕_}
 use Rattle.matrix.proofs.OwnFraction.{zero-is}
-use Rattle.matrix.proofs.Zeros.{round-zero, opposite-zeros}
+use Rattle.vectors.proofs.Finiteness.{zero-rounded}
+use Rattle.matrix.proofs.Zeros.{opposite-zeros}
 
 -- ---- one unit
 not-zero : (x : Float) (s : Bool) (a c : ℕ) → 0 < a → HasValue x s a c → x ≡ fin true 0 (pos 0) → ⊥
@@ -56,7 +57,7 @@ one-unit n c l (suc w) h e = omega (arith, e, suc-mul w c)
 
 whole-not-zero : (s : Bool) (n c : ℕ) → 0 < c → Whole n c → (s ≡ true → 0 < n) → round binary64 s n c ≡ fin true 0 (pos 0) → ⊥
 whole-not-zero s (suc n) c C w h e = round-not-zero s (suc n) c C (one-unit (suc n) c (2 ^ low binary64) (w .0) (mul-pos (zero-lt-suc n) (pow-pos (low binary64))) (w .1)) e
-whole-not-zero false zero c C w h e = opposite-zeros e (round-zero false c C)
+whole-not-zero false zero c C w h e = opposite-zeros e (zero-rounded false c C)
 whole-not-zero true zero c C w h e = absurd (omega (arith, h refl))
 
 total : (a b c : ℕ) → Whole a c → Whole b c → Whole (a + b) c

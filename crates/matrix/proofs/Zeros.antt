@@ -11,22 +11,18 @@ use lib.Dec.{T, ltb}
 use lib.IntN.{pos}
 use lib.Ieee.{Float, nan, inf, fin, binary64, up, down, size, odd, units, round, sum, add, fits}
 use lib.Ieee.Fits.{up-pos, down-pos}
-use lib.Ieee.Scale.{round-same}
 use Rattle.vectors.specs.Number.{_⊕_, plusZero, plusZero-is}
+use Rattle.vectors.proofs.Finiteness.{zero-rounded}
 use Rattle.matrix.proofs.OwnFraction.{own, zero-is}
 
 -- the same, or -0 and +0
 abbrev pub Alike : Float → Float → Type 0
 Alike a b = (a ≡ b) ⊎ ((a ≡ fin true 0 (pos 0)) × (b ≡ fin false 0 (pos 0)))
 
-pub round-zero : (s : Bool) (c : ℕ) → 0 < c → round binary64 s 0 c ≡ fin s 0 (pos 0)
-unfolding round units odd size
-round-zero s c h = round-same binary64 s 0 c 0 1 h (omega arith) (sym (zero-mul c))
-
 from-zeros : (t : Bool) (b c : ℕ) → 0 < c → Alike (sum binary64 true 0 t b c) (sum binary64 false 0 t b c)
 unfolding sum
 from-zeros false zero c h = inl refl
-from-zeros true zero c h = inr (round-zero true c h, round-zero false c h)
+from-zeros true zero c h = inr (zero-rounded true c h, zero-rounded false c h)
 from-zeros false (suc b) c h = inl (rw (lt-ltb 0 (suc b) (zero-lt-suc b)) (ap (λ (n : ℕ). round binary64 false n c) (omega arith)))
 from-zeros true (suc b) c h = inl (rw (lt-ltb 0 (suc b) (zero-lt-suc b)) (ap (λ (n : ℕ). round binary64 true n c) (omega arith)))
 

@@ -16,7 +16,7 @@ use Rattle.vectors.specs.declared.vec3.Vec3.{Vec3}
 use Rattle.vectors.specs.declared.vec4.Vec4.{Vec4}
 use Rattle.vectors.specs.declared.mat4.Mat4.{Mat4}
 
-zero-rounded : (s : Bool) (c : ℕ) → 0 < c → round binary64 s 0 c ≡ fin s 0 (pos 0)
+pub zero-rounded : (s : Bool) (c : ℕ) → 0 < c → round binary64 s 0 c ≡ fin s 0 (pos 0)
 unfolding round
 zero-rounded true c h = round-same binary64 true 0 c 0 1 h (lit< tt) (sym (zero-mul c)) ∙ refl
 zero-rounded false c h = round-same binary64 false 0 c 0 1 h (lit< tt) (sym (zero-mul c)) ∙ refl
