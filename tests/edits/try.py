@@ -1,168 +1,153 @@
 #!/usr/bin/env python3
 """Tries the edits in crates/NAME/edits: each makes a crate wrong, and the prover must refuse it.
 
-usage: tests/edits/try.py [NAME...]
+usage: tests/edits/try.py [--alone] [--ended FILE] [NAME...]
 
-They have the form of the edits in must-fail, which `rt ci` tries; there each costs a check of the whole crate, here only of what
-it touches, over what `rt dev` has checked before. An edit is refused when the prover answers that the crate is not proved, and the
-first error is not one of a proof file that no longer fits the code's shape. Two workers share the work: while one checks a crate as
-it stands, the other tries the edits of the crates below it. Exit status: 0 where all are refused."""
-import glob, os, re, shutil, subprocess, sys, tempfile, threading, time
+They have the form of the edits in must-fail, which `rt ci` tries from nothing; here each costs a check of what it touches, over what was
+just proved (stored.py). Edits of the bodies of different functions are tried together (verdict.py), and all of them without the samples that
+the checker only computes: what is refused without them is refused beside them. An edit that is not refused so is tried again, alone and
+whole, and that verdict counts. With --alone all are tried so. With --ended, an `rt ci` is under way, FILE appears when it has ended, and the edits
+of a crate are tried once it is proved; without, `rt check` proves the crates first. Exit status: 0 where all are refused."""
+import argparse, collections, glob, os, queue, subprocess, sys, tempfile, threading, time
 
-ROOT = os.path.dirname(os.path.dirname(os.path.dirname(os.path.abspath(__file__))))
-WORKERS = min(2, os.cpu_count() or 1)
-MISFITS = ('that can be named from here', 'has no field', 'expected type `tie.Need-')
+sys.dont_write_bytecode = True
+sys.path.append(os.path.join(os.path.dirname(os.path.abspath(__file__)), '../gate'))
+import edit, rooms, verdict
+from rooms import ROOT
+from stored import Stored, WORKERS, run_dev
 
-
-def pairs(edit):
-    """(file, old, new) of each replacement."""
-    name = old = None
-    for line in open(edit, encoding='utf-8').read().splitlines():
-        if line.startswith('file: '):
-            name = line[6:]
-        elif line.startswith('old: '):
-            old = line[5:]
-        elif line.startswith('new:') and old is not None:
-            yield name, old, line[4:].removeprefix(' ')
-            old = None
+Task = collections.namedtuple('Task', 'crate edits proofs whole')
 
 
-def applied(crate, edit):
-    """Changes the crate's files; answers what they held before, or None where the edit does not fit."""
-    before = {}
-    for name, old, new in pairs(edit):
-        path = os.path.join(crate, name)
-        text = open(path, encoding='utf-8').read()
-        before.setdefault(path, text)
-        if text.count(old) != 1:
-            restore(before)
-            return None
-        with open(path, 'w', encoding='utf-8') as f:
-            f.write(text.replace(old, new))
-    return before
+def alone(crate, e):
+    return Task(crate, [e], None, True)
 
 
-def restore(before):
-    for path, text in before.items():
-        with open(path, 'w', encoding='utf-8') as f:
-            f.write(text)
-
-
-def verdict(folder, name, edit):
-    before = applied(os.path.join(folder, 'crates', name), edit)
-    if not before:
-        return False, 'BAD EDIT: an old text is not there, or there more than once'
-    run = subprocess.run(['rt', 'dev', name], cwd=folder, capture_output=True, text=True)
-    restore(before)
-    said = run.stdout + run.stderr
-    first = next((l for l in said.splitlines() if ': error' in l), '')
-    if 'logic=not-proved' not in said:
-        return False, 'NOT REFUSED'
-    if any(m in first for m in MISFITS):
-        return False, 'refused only because the proof file no longer fits: ' + first[:300]
-    return True, 'refused, first at ' + re.sub(r':? error.*', '', first).removeprefix(folder + '/')
-
-
-def listed():
-    """The crates of crates.txt, each with those that it names."""
-    lines = [l.split('#')[0].split(':') for l in open(os.path.join(ROOT, 'crates.txt'), encoding='utf-8')]
-    return {l[0].strip(): l[1].split() for l in lines if len(l) == 2}
-
-
-def ordered(names, uses):
-    """A crate stands behind those that it names."""
-    done = []
-
-    def visit(name):
-        for other in uses.get(name, []):
-            visit(other)
-        if name in names and name not in done:
-            done.append(name)
-
-    for name in names:
-        visit(name)
-    return done
-
-
-class Work:
-    """What is to be done: the crates as they stand, in order, each of which brings its edits."""
-
-    def __init__(self, names):
-        self.crates, self.edits = list(names), []
-        self.checking, self.results, self.failed = False, [], None
-        self.changed = threading.Condition()
-
-    def take(self):
-        """('crate', name) or ('edit', name, edit), or None at the end."""
-        with self.changed:
-            while not self.failed:
-                if self.crates and not self.checking:
-                    self.checking = True
-                    return 'crate', self.crates.pop(0), None
-                if self.edits:
-                    return ('edit', *self.edits.pop(0))
-                if not self.crates and not self.checking:
-                    return None
-                self.changed.wait()
-
-    def checked(self, name, run):
-        with self.changed:
-            self.checking = False
-            if run.returncode:
-                self.failed = run.stdout + run.stderr
-            self.edits += [(name, e) for e in sorted(glob.glob(os.path.join(ROOT, 'crates', name, 'edits', '*.edit')))]
-            self.changed.notify_all()
-
-
-def below(name, uses):
-    """The crates of the repository that a crate reaches."""
-    named = [d for d in uses[name] if d in uses]
-    return set(named).union(*(below(d, uses) for d in named))
-
-
-def copied(folder, name):
-    """A copy of the crates, and of what was checked of one and of those below it."""
-    shutil.copytree(os.path.join(ROOT, 'crates'), os.path.join(folder, 'crates'), ignore=shutil.ignore_patterns('must-fail', 'edits', 'data'))
-    shutil.copy(os.path.join(ROOT, 'crates.txt'), folder)
-    for part in [f'inc/{name}'] + [p + d for d in below(name, listed()) for p in ('rlib/', 'stamp/')]:
-        source = os.path.join('target', part + '.rlib' if part.startswith('rlib/') else part)
-        os.makedirs(os.path.dirname(os.path.join(folder, source)), exist_ok=True)
-        subprocess.run(['cp', '-R', os.path.join(ROOT, source), os.path.join(folder, source)], check=True)
-
-
-def worker(work, top):
-    folders = {}
-    while True:
-        task = work.take()
-        if not task:
-            return
-        kind, name, edit = task
-        began = time.time()
-        if kind == 'crate':
-            work.checked(name, subprocess.run(['rt', 'dev', name], cwd=ROOT, capture_output=True, text=True))
-            print(f'edits {name}: checked as it stands ({time.time() - began:.0f} s)', flush=True)
+def tasks_of(crate, edits, folder):
+    """Edits of the bodies of different functions with proof files make one task; any other edit is a task by itself."""
+    groups, single = [], []
+    for e in edits:
+        function = edit.function_of(folder, e)
+        proof = edit.proof_of(folder, function) if function else None
+        if not proof:
+            single.append(Task(crate, [e], None, False))
             continue
-        if name not in folders:
-            folders[name] = tempfile.mkdtemp(dir=top)
-            copied(os.path.join(folders[name], 'copy'), name)
-        ok, words = verdict(os.path.join(folders[name], 'copy'), name, edit)
-        work.results.append(ok)
-        print(f'edits {name}/{os.path.basename(edit)[:-5]}: {words} ({time.time() - began:.0f} s)', flush=True)
+        group = next((g for g in groups if proof not in g.proofs), None)
+        if not group:
+            group = Task(crate, [], [], False)
+            groups.append(group)
+        group.edits.append(e)
+        group.proofs.append(proof)
+    return groups + single
+
+
+class Runner:
+    """Workers that take tasks, each in rooms of its own."""
+
+    def __init__(self, stored):
+        self.stored, self.tasks = stored, queue.Queue()
+        self.refused, self.checks, self.failure, self.lock = {}, [], None, threading.Lock()
+        for _ in range(WORKERS):
+            threading.Thread(target=self.work, daemon=True).start()
+
+    def say(self, words):
+        with self.lock:
+            print(words, flush=True)
+
+    def work(self):
+        own = {}
+        while True:
+            task = self.tasks.get()
+            try:
+                if not self.failure:
+                    self.do(task, own)
+            except Exception as e:
+                self.failure = self.failure or e
+            self.tasks.task_done()
+
+    def do(self, task, own):
+        kind = task.crate, task.whole
+        if kind not in own:
+            own[kind] = os.path.join(tempfile.mkdtemp(dir=self.stored.top), 'room')
+            self.stored.room(own[kind], *kind)
+        began = time.monotonic()
+        answers = self.tried(task, own[kind])
+        took = time.monotonic() - began
+        self.checks.append((task.crate, took))
+        for e, (refused, words) in zip(task.edits, answers):
+            if not refused and not task.whole:
+                self.tasks.put(alone(task.crate, e))
+                continue
+            self.refused[e] = refused
+            self.say(f'edits {task.crate}/{edit.name(e)}: {words} ({took:.0f} s' + (f' for {len(answers)})' if len(answers) > 1 else ')'))
+
+    def tried(self, task, room):
+        """(refused, words) of each edit of a task."""
+        folder = os.path.join(room, 'crates', task.crate)
+        self.stored.fresh(room, task.crate)
+        before = edit.applied(folder, task.edits)
+        if not before:
+            return [(False, 'BAD EDIT: an old text is not there, or there more than once')] * len(task.edits)
+        said = run_dev(room, task.crate)
+        edit.restored(before)
+        return verdict.together(said, folder, task.proofs) if len(task.edits) > 1 else [verdict.alone(said, folder)]
+
+
+def try_all(names, asked, stored, runner):
+    """Has each crate's edits tried once it is proved, the crates that it names before it."""
+    for crate in dict.fromkeys(c for n in names for c in rooms.below(n, stored.uses) + [n]):
+        rooms.wait(crate, asked.ended)
+        if runner.failure:
+            return
+        stored.take(crate)
+        edits = sorted(glob.glob(os.path.join(ROOT, 'crates', crate, 'edits', '*.edit'))) if crate in names else []
+        runner.refused.update(dict.fromkeys(edits, False))
+        folder = os.path.join(stored.folder, 'crates', crate)
+        for task in [alone(crate, e) for e in edits] if asked.alone else tasks_of(crate, edits, folder):
+            runner.tasks.put(task)
+    runner.tasks.join()
+
+
+def report(names, runner):
+    """Prints how each crate fared, and how long its checks took."""
+    for crate in names:
+        fared = [r for e, r in runner.refused.items() if f'/crates/{crate}/edits/' in e]
+        took = [t for c, t in runner.checks if c == crate]
+        print(f'edits {crate}: {sum(fared)} of {len(fared)} refused, in {len(took)} checks of {sum(took):.0f} s')
+    print(f'edits: {sum(runner.refused.values())} of {len(runner.refused)} refused')
+    return bool(runner.refused) and all(runner.refused.values())
+
+
+def run(names, asked):
+    with tempfile.TemporaryDirectory() as top:
+        stored = Stored(os.path.realpath(top))
+        runner = Runner(stored)
+        try:
+            try_all(names, asked, stored, runner)
+        except BaseException as e:
+            runner.failure = e
+        runner.tasks.join()
+        if runner.failure:
+            raise runner.failure
+        stored.untouched()
+    return report(names, runner)
 
 
 def main():
-    having = [os.path.basename(os.path.dirname(d)) for d in glob.glob(os.path.join(ROOT, 'crates', '*', 'edits'))]
-    work = Work(ordered(sys.argv[1:] or sorted(having), listed()))
-    with tempfile.TemporaryDirectory() as top:
-        threads = [threading.Thread(target=worker, args=(work, top)) for _ in range(WORKERS)]
-        for t in threads:
-            t.start()
-        for t in threads:
-            t.join()
-    if work.failed:
-        sys.exit(work.failed)
-    print(f'edits: {sum(work.results)} of {len(work.results)} refused')
-    return 0 if all(work.results) else 1
+    parser = argparse.ArgumentParser()
+    parser.add_argument('--alone', action='store_true')
+    parser.add_argument('--ended', metavar='FILE')
+    parser.add_argument('names', nargs='*', metavar='NAME')
+    asked = parser.parse_args()
+    names = asked.names or [c for c in rooms.listed() if os.path.isdir(os.path.join(ROOT, 'crates', c, 'edits'))]
+    if not asked.ended:
+        check = subprocess.run(['rt', 'check', *names], cwd=ROOT, stdout=subprocess.PIPE)
+        if check.returncode:
+            sys.exit(check.stdout.decode('utf-8', 'replace'))
+    try:
+        return 0 if run(names, asked) else 1
+    except RuntimeError as e:
+        sys.exit(f'edits: {e}')
 
 
 sys.exit(main())
