@@ -4,20 +4,16 @@ use mathlib.Core.List.{flatMap}
 use lib.Dec.{T}
 use Rattle.vectors.specs.Samples.{haveBits}
 use Rattle.matrix.specs.Opened.{opened}
-use Rattle.matrix.specs.SamplesSystem.{restShape, nowShape, hair, hairEnergySample, hairGradient, hairGradientSample, hairBlocks, hairBlocksSample, pickedGradient, pickedBlocks, pickedSample, inertBlocks, inertSample, samplePins, pinnedGradient, pinnedGradientSample, pinnedBlocks, pinnedBlocksSample}
+use Rattle.matrix.specs.SamplesSystem.{restShape, nowShape, hair, hairEnergySample, hairGradient, hairBlocks, hairSample, pickedGradient, pickedBlocks, pickedSample, inertBlocks, inertSample, samplePins, pinnedGradient, pinnedGradientSample, pinnedBlocks, pinnedBlocksSample}
 use Rattle.matrix.specs.SamplesSolve.{productSample, limitedSolve, convergedSolve}
 
 energy : T hairEnergySample
 unfolding opened haveBits restShape nowShape hairEnergySample
 energy = tt
 
-gradient : T hairGradientSample
-unfolding opened haveBits restShape nowShape hair hairGradient hairGradientSample
-gradient = tt
-
-blocks : T hairBlocksSample
-unfolding opened haveBits flatMap restShape nowShape hair hairBlocks hairBlocksSample
-blocks = tt
+assembled : T hairSample
+unfolding opened haveBits flatMap restShape nowShape hair hairGradient hairBlocks hairSample
+assembled = tt
 
 loads : T (pickedSample && inertSample)
 unfolding opened haveBits flatMap hairGradient hairBlocks pickedGradient pickedBlocks inertBlocks pickedSample inertSample
