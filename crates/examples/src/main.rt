@@ -3,9 +3,13 @@
 use elements::rod3_darboux;
 use elements::rod3_darboux::Rod;
 use elements::spring3;
+use vectors::mat3::Mat3;
 use vectors::vec3::Vec3;
 
+mod benches;
 mod moves;
+mod print;
+mod run;
 mod seats;
 mod stay;
 mod steps;
@@ -23,97 +27,51 @@ fn main() {
     show_stretch();
     show_darboux();
     seats::show();
+    stay::show();
     steps::show();
+    moves::show();
 }
 
 // The root of x beside x.
 fn show_root(x: f64) {
-    io::write_all(1, b"root ");
-    show_bits(x);
-    io::write_all(1, b" = ");
-    show_bits(roots::sqrt(x));
-    io::write_all(1, b"\n");
+    print::float(b"root ", x);
+    print::float(b" = ", roots::sqrt(x));
+    print::end();
 }
 
 // P5: the ends are 0 and (2, 0, 0), the length at rest and the stiffness 1.
 fn show_stretch() {
-    let p0 = Vec3 {
-        x: 0.0,
-        y: 0.0,
-        z: 0.0,
-    };
-    let p1 = Vec3 {
-        x: 2.0,
-        y: 0.0,
-        z: 0.0,
-    };
-    let s = spring3::wdwddw_squared_length_difference(1.0, p0, p1, 1.0);
-    let dw0 = s.dw0;
-    let dw1 = s.dw1;
-    let same = s.same;
-    let diagonal = Vec3 {
-        x: same.r0.x,
-        y: same.r1.y,
-        z: same.r2.z,
-    };
-    io::write_all(1, b"stretch energy ");
-    show_bits(s.w);
-    io::write_all(1, b"\nstretch gradient");
-    show_vec3(dw0);
-    io::write_all(1, b"\nstretch gradient");
-    show_vec3(dw1);
-    io::write_all(1, b"\nstretch diagonal");
-    show_vec3(diagonal);
-    io::write_all(1, b"\n");
+    let s = spring3::wdwddw_squared_length_difference(
+        1.0,
+        at(0.0, 0.0, 0.0),
+        at(2.0, 0.0, 0.0),
+        1.0,
+    );
+    print::float(b"stretch energy ", s.w);
+    print::vector(b"\nstretch gradient", s.dw0);
+    print::vector(b"\nstretch gradient", s.dw1);
+    print::vector(b"\nstretch diagonal", diagonal(s.same));
+    print::end();
+}
+
+fn diagonal(m: Mat3) -> Vec3 {
+    at(m.r0.x, m.r1.y, m.r2.z)
+}
+
+fn at(x: f64, y: f64, z: f64) -> Vec3 {
+    Vec3 { x, y, z }
 }
 
 // P6: a right angle, both frames across it.
 fn show_darboux() {
-    let p0 = Vec3 {
-        x: 0.0,
-        y: 0.0,
-        z: 0.0,
-    };
-    let p1 = Vec3 {
-        x: 1.0,
-        y: 0.0,
-        z: 0.0,
-    };
-    let p2 = Vec3 {
-        x: 1.0,
-        y: 1.0,
-        z: 0.0,
-    };
-    let up = Vec3 {
-        x: 0.0,
-        y: 0.0,
-        z: 1.0,
-    };
-    io::write_all(1, b"darboux vector");
-    show_vec3(rod3_darboux::darboux_rod(Rod {
-        p0,
-        p1,
-        p2,
+    let up = at(0.0, 0.0, 1.0);
+    let rod = Rod {
+        p0: at(0.0, 0.0, 0.0),
+        p1: at(1.0, 0.0, 0.0),
+        p2: at(1.0, 1.0, 0.0),
         x0: up,
         x1: up,
-    }));
-    io::write_all(1, b"\n");
-}
-
-fn show_vec3(v: Vec3) {
-    io::write_all(1, b" ");
-    show_bits(v.x);
-    io::write_all(1, b" ");
-    show_bits(v.y);
-    io::write_all(1, b" ");
-    show_bits(v.z);
-}
-
-// The bits of x. A NaN has no one pattern, so it is named.
-fn show_bits(x: f64) {
-    if x == x {
-        io::print_hex(1, f64::to_bits(x), 16);
-    } else {
-        io::write_all(1, b"NaN");
-    }
+    };
+    print::vector(b"darboux vector", rod3_darboux::darboux_rod(rod));
+    print::end();
 }

@@ -1,192 +1,139 @@
-// The bench's calls but the steps, and the numbers that they answer: loads, each on a new bench, and a
-// strand's stay on the last seat.
-use crate::stay;
+// Loads, each on a new bench, and the numbers that they answer.
+use crate::benches;
+use crate::print;
 use crate::strands;
-use bench::areas;
+use bench::areas::DRAPE;
+use bench::areas::PINS;
+use bench::areas::REST;
 use bench::load;
 use bench::seats::Record;
-use bench::seats::Settings;
+ghost use Prim.Native.Nat.{_≤_};
 
 pub fn show() {
     show_counts();
     show_seats();
-    show_rest_lengths();
-    show_drape_lengths();
-    show_pin_lengths();
+    show_lengths();
     show_records();
     show_lists();
     show_numbers();
     show_edges();
-    stay::show();
 }
 
-pub fn show_answer(what: &[u8], k: u8) {
-    io::write_all(1, what);
-    io::write_all(1, b" = ");
-    io::print_decimal(1, k as u64);
-    io::write_all(1, b"\n");
-}
-
-// A load on seat 0 of a new bench.
-fn laid(settings: Settings, n: usize, positions: &[f64], frames: &[f64]) -> u8 {
-    let mut rest = [0.0; areas::REST];
-    let mut drape = [0.0; areas::DRAPE];
-    let mut pins = [0; areas::PINS];
-    let out = load::load_value(
-        Record::new(),
-        &mut rest,
-        &mut drape,
-        &mut pins,
+// A load of n vertices, with this many numbers of positions and of frames.
+fn listed(what: &[u8], n: usize, positions: usize, frames: usize) {
+    let xs = strands::row(0, 1.0);
+    let fs = strands::row(1, 0.0);
+    let out = benches::load(
+        benches::new(),
         0,
         n,
-        settings,
-        positions,
-        frames,
-    );
-    out.refusal
-}
-
-// A load of two vertices, x apart, with f as the last number of the frames.
-fn laid_pair(settings: Settings, x: f64, f: f64) -> u8 {
-    let positions = [0.0, 0.0, 0.0, x, 0.0, 0.0];
-    let frames = [0.0, 1.0, 0.0, 0.0, 1.0, f];
-    laid(settings, 2, &positions, &frames)
-}
-
-// A load of two vertices into these areas.
-fn lent(record: Record, rest: &mut [f64], drape: &mut [f64], pins: &mut [u8], seat: usize) -> u8 {
-    let positions = [0.0, 0.0, 0.0, 1.0, 0.0, 0.0];
-    let frames = [0.0, 1.0, 0.0, 0.0, 1.0, 0.0];
-    let out = load::load_value(
-        record,
-        rest,
-        drape,
-        pins,
-        seat,
-        2,
         strands::plain(),
-        &positions,
-        &frames,
+        strands::first(&xs, positions),
+        strands::first(&fs, frames),
     );
-    out.refusal
-}
-
-// A load of two vertices with this record and new areas.
-fn recorded(record: Record, seat: usize) -> u8 {
-    let mut rest = [0.0; areas::REST];
-    let mut drape = [0.0; areas::DRAPE];
-    let mut pins = [0; areas::PINS];
-    lent(record, &mut rest, &mut drape, &mut pins, seat)
+    print::answer(what, out.refusal);
 }
 
 fn show_counts() {
-    let g = strands::plain();
-    let xs = strands::line();
-    let fs = strands::across();
-    show_answer(b"load of 1 vertex", laid(g, 1, &xs, &fs));
-    show_answer(b"load of 33 vertices", laid(g, 33, &xs, &fs));
-    let ys = strands::first(&xs, 96);
-    let es = strands::first(&fs, 96);
-    show_answer(b"load of 32 vertices", laid(g, 32, ys, es));
-    show_answer(b"load of 2 vertices", laid_pair(g, 1.0, 0.0));
-}
-
-fn show_seats() {
-    let taken = record_with(2, strands::plain());
-    show_answer(b"load on seat 6", recorded(Record::new(), 6));
-    show_answer(b"load on seat 5", recorded(Record::new(), 5));
-    show_answer(b"load on a taken seat", recorded(taken, 3));
-}
-
-fn show_rest_lengths() {
-    let mut short = [0.0; areas::REST - 1];
-    let mut long = [0.0; areas::REST + 1];
-    let mut drape = [0.0; areas::DRAPE];
-    let mut pins = [0; areas::PINS];
-    let k = lent(Record::new(), &mut short, &mut drape, &mut pins, 0);
-    show_answer(b"load with rest one short", k);
-    let k = lent(Record::new(), &mut long, &mut drape, &mut pins, 0);
-    show_answer(b"load with rest one long", k);
-}
-
-fn show_drape_lengths() {
-    let mut rest = [0.0; areas::REST];
-    let mut short = [0.0; areas::DRAPE - 1];
-    let mut long = [0.0; areas::DRAPE + 1];
-    let mut pins = [0; areas::PINS];
-    let k = lent(Record::new(), &mut rest, &mut short, &mut pins, 0);
-    show_answer(b"load with drape one short", k);
-    let k = lent(Record::new(), &mut rest, &mut long, &mut pins, 0);
-    show_answer(b"load with drape one long", k);
-}
-
-fn show_pin_lengths() {
-    let mut rest = [0.0; areas::REST];
-    let mut drape = [0.0; areas::DRAPE];
-    let mut short = [0; areas::PINS - 1];
-    let mut long = [0; areas::PINS + 1];
-    let k = lent(Record::new(), &mut rest, &mut drape, &mut short, 0);
-    show_answer(b"load with pins one short", k);
-    let k = lent(Record::new(), &mut rest, &mut drape, &mut long, 0);
-    show_answer(b"load with pins one long", k);
-}
-
-// A new bench's record, but with n and the settings at seat 3.
-fn record_with(n: usize, settings: Settings) -> Record {
-    let mut record = Record::new();
-    record.counts[3] = n;
-    record.settings[3] = settings;
-    record
-}
-
-fn show_records() {
-    let good = strands::plain();
-    let bad = strands::settings(0.0 / 0.0, 0.5);
-    let one = record_with(1, good);
-    show_answer(b"load beside count 1", recorded(one, 0));
-    show_answer(b"load on seat 6 beside count 1", recorded(one, 6));
-    show_answer(b"load beside count 33", recorded(record_with(33, good), 0));
-    show_answer(
-        b"load beside a taken seat's NaN",
-        recorded(record_with(2, bad), 0),
-    );
-    show_answer(
-        b"load beside an empty seat's NaN",
-        recorded(record_with(0, bad), 0),
-    );
+    listed(b"load of 1 vertex", 1, 3, 3);
+    listed(b"load of 33 vertices", 33, 99, 99);
+    listed(b"load of 32 vertices", 32, 96, 96);
+    listed(b"load of 2 vertices", 2, 6, 6);
 }
 
 fn show_lists() {
-    let g = strands::plain();
-    let xs = [0.0, 0.0, 0.0, 1.0, 0.0, 0.0];
-    let fs = [0.0, 1.0, 0.0, 0.0, 1.0, 0.0];
-    show_answer(
-        b"load of positions one short",
-        laid(g, 2, strands::first(&xs, 5), &fs),
+    listed(b"load of positions one short", 2, 5, 6);
+    listed(b"load of frames one short", 2, 6, 5);
+}
+
+// A load on the seat, where seat 3 has a count and a stiffness.
+fn seated(what: &[u8], seat: usize, count: usize, stiffness: f64) {
+    let mut record = Record::new();
+    record.counts[3] = count;
+    record.settings[3] = strands::settings(stiffness, 0.5);
+    let mut b = benches::new();
+    b.record = record;
+    let out = benches::load(
+        b,
+        seat,
+        2,
+        strands::plain(),
+        &strands::PAIR,
+        &strands::FRAMES,
     );
-    show_answer(
-        b"load of frames one short",
-        laid(g, 2, &xs, strands::first(&fs, 5)),
+    print::answer(what, out.refusal);
+}
+
+fn show_seats() {
+    seated(b"load on seat 6", 6, 0, 0.0);
+    seated(b"load on seat 5", 5, 0, 0.0);
+    seated(b"load on a taken seat", 3, 2, 1.0);
+}
+
+fn show_records() {
+    seated(b"load beside count 1", 0, 1, 1.0);
+    seated(b"load on seat 6 beside count 1", 6, 1, 1.0);
+    seated(b"load beside count 33", 0, 33, 1.0);
+    seated(b"load beside a taken seat's NaN", 0, 2, 0.0 / 0.0);
+    seated(b"load beside an empty seat's NaN", 0, 0, 0.0 / 0.0);
+}
+
+// A load into areas of these lengths.
+fn lent(what: &[u8], rest: usize, drape: usize, pins: usize)
+    requires { ⌜ rest ≤ 1153 ⌝ }
+    requires { ⌜ drape ≤ 2305 ⌝ }
+    requires { ⌜ pins ≤ 769 ⌝ }
+{
+    let mut r = [0.0; REST + 1];
+    let mut d = [0.0; DRAPE + 1];
+    let mut p = [0; PINS + 1];
+    let out = load::load_value(
+        Record::new(),
+        &mut r[0..rest],
+        &mut d[0..drape],
+        &mut p[0..pins],
+        0,
+        2,
+        strands::plain(),
+        &strands::PAIR,
+        &strands::FRAMES,
     );
+    print::answer(what, out.refusal);
+}
+
+fn show_lengths() {
+    lent(b"load with rest one short", REST - 1, DRAPE, PINS);
+    lent(b"load with rest one long", REST + 1, DRAPE, PINS);
+    lent(b"load with drape one short", REST, DRAPE - 1, PINS);
+    lent(b"load with drape one long", REST, DRAPE + 1, PINS);
+    lent(b"load with pins one short", REST, DRAPE, PINS - 1);
+    lent(b"load with pins one long", REST, DRAPE, PINS + 1);
+}
+
+// A load of two vertices, x apart, with f as the last number of the frames.
+fn pair(what: &[u8], x: f64, f: f64, stiffness: f64, ratio: f64) {
+    let positions = [0.0, 0.0, 0.0, x, 0.0, 0.0];
+    let frames = [0.0, 1.0, 0.0, 0.0, 1.0, f];
+    let settings = strands::settings(stiffness, ratio);
+    let out = benches::load(benches::new(), 0, 2, settings, &positions, &frames);
+    print::answer(what, out.refusal);
 }
 
 fn show_numbers() {
-    let good = strands::plain();
-    show_answer(b"load of a NaN position", laid_pair(good, 0.0 / 0.0, 0.0));
-    show_answer(
+    pair(b"load of a NaN position", 0.0 / 0.0, 0.0, 1.0, 0.5);
+    pair(
         b"load of an infinite frame number",
-        laid_pair(good, 1.0, 1.0 / 0.0),
+        1.0,
+        1.0 / 0.0,
+        1.0,
+        0.5,
     );
-    let below = strands::settings(-1.0, 0.5);
-    show_answer(b"load with stiffness -1", laid_pair(below, 1.0, 0.0));
-    let zero = strands::settings(-0.0, 0.5);
-    show_answer(b"load with stiffness -0", laid_pair(zero, 1.0, 0.0));
-    let nan = strands::settings(1.0, 0.0 / 0.0);
-    show_answer(b"load with ratio NaN", laid_pair(nan, 1.0, 0.0));
+    pair(b"load with stiffness -1", 1.0, 0.0, -1.0, 0.5);
+    pair(b"load with stiffness -0", 1.0, 0.0, -0.0, 0.5);
+    pair(b"load with ratio NaN", 1.0, 0.0, 1.0, 0.0 / 0.0);
 }
 
 fn show_edges() {
-    let g = strands::plain();
-    show_answer(b"load of vertices at one place", laid_pair(g, 0.0, 0.0));
-    show_answer(b"load of vertices 1e200 apart", laid_pair(g, 1e200, 0.0));
+    pair(b"load of vertices at one place", 0.0, 0.0, 1.0, 0.5);
+    pair(b"load of vertices 1e200 apart", 1e200, 0.0, 1.0, 0.5);
 }

@@ -4,8 +4,8 @@ use mathlib.Core.Path.{_≡_, sym}
 use mathlib.Core.Bool.{true, not, true≢false}
 use lib.Dec.{T}
 use lib.Ieee.{Float, nan, inf, fin, eq, isNan}
-use Rattle.examples.proofs.show_bits.Statement.{statement}
-use Rattle.examples.proofs.show_bits.Tie as tie
+use Rattle.examples.proofs.print.bits.Statement.{statement}
+use Rattle.examples.proofs.print.bits.Tie as tie
 
 not-nan : (x : Float) → eq x x ≡ true → T (not (isNan x))
 unfolding eq isNan
@@ -31,5 +31,5 @@ returns c = search needs
 returns-2 : tie.Need-returns-2
 returns-2 c = search needs
 
-pub show-bits-spec : {M : Type 1} → statement M
-show-bits-spec = tie.close (tie.spec float-to-bits-print-hex print-hex-requires slice-aggregate-write-all write-all-requires returns returns-2)
+pub bits-spec : {M : Type 1} → statement M
+bits-spec = tie.close (tie.spec float-to-bits-print-hex print-hex-requires slice-aggregate-write-all write-all-requires returns returns-2)

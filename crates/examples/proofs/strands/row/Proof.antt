@@ -3,20 +3,23 @@ use borrow.Author.Needs.{needs}
 use mathlib.Core.Path.{_≡_}
 use Prim.Native.Nat.{_≤_, _-_}
 use lib.ListN.{length}
-use Rattle.examples.proofs.strands.line.Statement.{statement}
-use Rattle.examples.proofs.strands.line.Tie as tie
+use Rattle.examples.proofs.strands.row.Statement.{statement}
+use Rattle.examples.proofs.strands.row.Tie as tie
 
 abbrev Inv-loop : tie.InvT-loop
-Inv-loop xs₀ x₀ i₀ xs x i = (i ≤ 33) × (length xs ≡ 99)
+Inv-loop axis more xs₀ x₀ i₀ xs x i = (i ≤ 33) × (length xs ≡ 99)
 
 abbrev μ-loop : tie.MeasureT-loop
-μ-loop xs₀ x₀ i₀ xs x i = 33 - i
+μ-loop axis more xs₀ x₀ i₀ xs x i = 33 - i
 
 loop-holds : tie.Need-loop-holds Inv-loop μ-loop
 loop-holds c = search needs
 
 mul-xs : tie.Need-mul-xs Inv-loop μ-loop
 mul-xs c = search needs
+
+add-xs : tie.Need-add-xs Inv-loop μ-loop
+add-xs c = search needs
 
 mul-xs-2 : tie.Need-mul-xs-2 Inv-loop μ-loop
 mul-xs-2 c = search needs
@@ -36,5 +39,5 @@ loop-again c = search needs
 returns : tie.Need-returns Inv-loop μ-loop
 returns c = search needs
 
-pub line-spec : {M : Type 1} → statement M
-line-spec = tie.close (tie.spec Inv-loop μ-loop loop-holds mul-xs mul-xs-2 array-write-xs add-i loop-less loop-again returns)
+pub row-spec : {M : Type 1} → statement M
+row-spec = tie.close (tie.spec Inv-loop μ-loop loop-holds mul-xs add-xs mul-xs-2 array-write-xs add-i loop-less loop-again returns)
