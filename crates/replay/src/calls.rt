@@ -1,5 +1,6 @@
 // The calls of the list but the steps, made on the bench with the areas as they are lent. Each says whether the
 // answer is the stored one.
+use crate::areas;
 use crate::line;
 use crate::numbers;
 use crate::record;
@@ -28,36 +29,7 @@ pub fn seat(w: &[u64]) -> usize {
     line::count(w, 5)
 }
 
-// A load with these lists.
-fn laid(
-    seats: Record,
-    rest: &mut [f64],
-    drape: &mut [f64],
-    pins: &mut [u8],
-    w: &[u64],
-    positions: &[f64],
-    frames: &[f64],
-) -> Made {
-    let n = line::count(w, shape::ARGUMENTS);
-    let settings = record::settings(w, 7);
-    let out = load::load_value(
-        seats,
-        rest,
-        drape,
-        pins,
-        seat(w),
-        n,
-        settings,
-        positions,
-        frames,
-    );
-    let after = out.seats;
-    Made {
-        seats: after,
-        same: said(w, out.refusal),
-    }
-}
-
+// The lists are among the numbers of the line's words.
 pub fn load(
     seats: Record,
     rest: &mut [f64],
@@ -65,21 +37,27 @@ pub fn load(
     pins: &mut [u8],
     w: &[u64],
 ) -> Made {
-    let xs = line::list(w, shape::POSITIONS);
-    let fs = line::list(w, shape::past_list(w, shape::POSITIONS));
-    let n = xs.len();
-    let m = fs.len();
-    if LIST < n {
-        return Made { seats, same: false };
+    let mut numbers = [0.0; areas::LINE];
+    numbers::fill(&mut numbers, w);
+    let frames = shape::past_list(w, shape::POSITIONS);
+    let n = line::count(w, shape::POSITIONS);
+    let m = line::count(w, frames);
+    let out = load::load_value(
+        seats,
+        rest,
+        drape,
+        pins,
+        seat(w),
+        line::count(w, shape::ARGUMENTS),
+        record::settings(w, 7),
+        part(&numbers, shape::POSITIONS + 1, n),
+        part(&numbers, frames + 1, m),
+    );
+    let after = out.seats;
+    Made {
+        seats: after,
+        same: (n <= LIST) & (m <= LIST) & said(w, out.refusal),
     }
-    if LIST < m {
-        return Made { seats, same: false };
-    }
-    let mut positions = [0.0; LIST];
-    let mut frames = [0.0; LIST];
-    numbers::fill(&mut positions, xs);
-    numbers::fill(&mut frames, fs);
-    laid(seats, rest, drape, pins, w, &positions[0..n], &frames[0..m])
 }
 
 pub fn unload(
@@ -125,27 +103,23 @@ fn part<'a>(xs: &'a [f64], from: usize, n: usize) -> &'a [f64] {
 }
 
 // The numbers that are handed back are the stored ones, and so are those at the stored place.
-pub fn look<'a>(seats: Record, rest: &'a [f64], drape: &'a [f64], w: &[u64]) -> bool {
-    let answer = shape::answer(w);
-    let words = line::list(w, answer + 2);
+fn seen(w: &[u64], numbers: &[f64], there: &[f64]) -> bool {
+    let words = line::list(w, 9);
     let n = words.len();
-    let numbers = look::look(seats, rest, drape, seat(w), line::count(w, 6));
-    let there = shown(
-        rest,
-        drape,
-        line::at(w, answer),
-        line::count(w, answer + 1),
-        n,
-    );
     (numbers.len() == n)
         & (there.len() == n)
         & (numbers::first_other(numbers, words) == n)
         & (numbers::first_other(there, words) == n)
 }
 
-pub fn companion(seats: Record, rest: &[f64], drape: &[f64], w: &[u64]) -> bool {
-    said(
-        w,
-        look::companion(seats, rest, drape, seat(w), line::count(w, 6)),
-    )
+// A look or its companion.
+pub fn look<'a>(seats: Record, rest: &'a [f64], drape: &'a [f64], w: &[u64]) -> bool {
+    let seat = seat(w);
+    let kind = line::count(w, 6);
+    if line::at(w, 0) == shape::COMPANION {
+        return said(w, look::companion(seats, rest, drape, seat, kind));
+    }
+    let n = line::count(w, 9);
+    let there = shown(rest, drape, line::at(w, 7), line::count(w, 8), n);
+    seen(w, look::look(seats, rest, drape, seat, kind), there)
 }

@@ -1,9 +1,7 @@
-// The stored changes, and the expected record and areas that they are made to.
+// The stored changes, which are made to the expected record and areas.
 use crate::areas;
 use crate::line;
-use crate::numbers;
-use crate::record;
-use bench::seats::Record;
+use crate::shape;
 
 // As many of the words as there is room for.
 fn put(to: &mut [u64], words: &[u64]) {
@@ -15,12 +13,9 @@ fn put(to: &mut [u64], words: &[u64]) {
 }
 
 // Makes the run at a place: area, first place, how many, and the words. The answer is the place after
-// it, 0 where it is malformed.
+// it, 0 where it is malformed. Where the line ends in the first three, that is a place past its end.
 fn make_run(w: &[u64], i: usize, expected: &mut [u64]) -> usize {
-    if w.len() < 3 {
-        return 0;
-    }
-    if w.len() - 3 < i {
+    if areas::LINE < i {
         return 0;
     }
     let area = line::at(w, i);
@@ -46,9 +41,10 @@ fn make_run(w: &[u64], i: usize, expected: &mut [u64]) -> usize {
     i + 3 + n
 }
 
-// Makes the runs at a place, which their number comes before. Whether they are well formed and the
-// line ends with them.
-pub fn make(w: &[u64], from: usize, expected: &mut [u64]) -> bool {
+// Makes the line's runs, which their number comes before. Whether they are well formed and the line
+// ends with them.
+pub fn make(w: &[u64], expected: &mut [u64]) -> bool {
+    let from = shape::changes(w);
     if w.len() <= from {
         return false;
     }
@@ -63,12 +59,4 @@ pub fn make(w: &[u64], from: usize, expected: &mut [u64]) -> bool {
         k += 1;
     }
     i == w.len()
-}
-
-// The expected areas in place of the bench's own, and the expected record.
-pub fn restore(rest: &mut [f64], drape: &mut [f64], pins: &mut [u8], expected: &[u64]) -> Record {
-    numbers::fill(rest, line::part(expected, areas::REST_AT, areas::REST));
-    numbers::fill(drape, line::part(expected, areas::DRAPE_AT, areas::DRAPE));
-    numbers::fill_bytes(pins, line::part(expected, areas::PINS_AT, areas::PINS));
-    record::record(expected)
 }

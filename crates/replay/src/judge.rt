@@ -1,5 +1,6 @@
 // What differs after a call, if anything.
 use crate::areas;
+use crate::calls::Made;
 use crate::garbage;
 use crate::line;
 use crate::numbers;
@@ -58,19 +59,19 @@ fn free(w: &[u64]) -> usize {
 }
 
 pub fn judged(
-    seats: Record,
+    made: Made,
     rest: &[f64],
     drape: &[f64],
     pins: &[u8],
     work: &[f64],
     expected: &[u64],
     w: &[u64],
-    same: bool,
     number: usize,
 ) -> Verdict {
-    if !same {
+    if !made.same {
         return Verdict::Answer;
     }
+    let seats = made.seats;
     let i = first_place(seats, rest, drape, pins, expected);
     if i < areas::ALL {
         return Verdict::Place(i);

@@ -6,6 +6,7 @@ use crate::line;
 use crate::shape;
 use crate::steps;
 use bench::seats::Record;
+ghost use Prim.Native.Nat.{_≤_};
 
 // The call of the line's kind, on areas as they are lent.
 fn call(
@@ -23,34 +24,37 @@ fn call(
             seats,
             same: calls::pin(seats, pins, w),
         },
-        shape::LOOK => Made {
+        shape::LOOK | shape::COMPANION => Made {
             seats,
             same: calls::look(seats, &rest[..], &drape[..], w),
         },
-        shape::COMPANION => Made {
-            seats,
-            same: calls::companion(seats, &rest[..], &drape[..], w),
-        },
-        shape::STATIC => Made {
-            seats,
-            same: steps::step_static(seats, &rest[..], drape, &pins[..], work, w),
-        },
         _ => Made {
             seats,
-            same: steps::step_dynamic(seats, &rest[..], drape, &pins[..], work, w),
+            same: steps::step(seats, &rest[..], drape, &pins[..], work, w),
         },
     }
 }
 
-// Whether the areas are as long as the line says that they are lent.
-pub fn fits(rest: usize, drape: usize, pins: usize, w: &[u64]) -> bool {
-    (line::count(w, 1) <= rest)
-        & (line::count(w, 2) <= drape)
-        & (line::count(w, 3) <= pins)
+// Whether there is as much of each area as the line says that is lent.
+pub fn fits(w: &[u64]) -> bool {
+    (line::count(w, 1) <= areas::REST)
+        & (line::count(w, 2) <= areas::DRAPE)
+        & (line::count(w, 3) <= areas::PINS)
         & (line::count(w, 4) <= areas::WORK)
 }
 
-// The line's call; none is made where an area is too short for it.
+// The length at a place of the line, at most this.
+fn lent(w: &[u64], i: usize, most: usize) -> usize
+    ensures { λ r. ⌜ r ≤ most ⌝ }
+{
+    let n = line::count(w, i);
+    if n <= most {
+        return n;
+    }
+    most
+}
+
+// The line's call, which fits.
 pub fn make(
     seats: Record,
     rest: &mut [f64],
@@ -59,22 +63,10 @@ pub fn make(
     work: &mut [f64],
     w: &[u64],
 ) -> Made {
-    let a = line::count(w, 1);
-    let b = line::count(w, 2);
-    let c = line::count(w, 3);
-    let d = line::count(w, 4);
-    if rest.len() < a {
-        return Made { seats, same: false };
-    }
-    if drape.len() < b {
-        return Made { seats, same: false };
-    }
-    if pins.len() < c {
-        return Made { seats, same: false };
-    }
-    if work.len() < d {
-        return Made { seats, same: false };
-    }
+    let a = lent(w, 1, rest.len());
+    let b = lent(w, 2, drape.len());
+    let c = lent(w, 3, pins.len());
+    let d = lent(w, 4, work.len());
     call(
         seats,
         &mut rest[0..a],

@@ -27,12 +27,8 @@ fn main() {
     libc::close(fd);
 }
 
-// Both the bench's own areas and the expected ones begin as those of a new bench.
+// The expected record and areas begin as those of a new bench.
 fn replay(fd: i32) {
-    let mut rest = [0.0; areas::REST];
-    let mut drape = [0.0; areas::DRAPE];
-    let mut pins = [0u8; areas::PINS];
     let mut expected = [0u64; areas::ALL];
-    let tally = run::run(fd, &mut rest, &mut drape, &mut pins, &mut expected);
-    report::show(tally);
+    report::show(run::run(fd, &mut expected));
 }

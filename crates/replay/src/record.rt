@@ -40,25 +40,15 @@ pub fn record(words: &[u64]) -> Record {
 }
 
 // The first of five places whose word is not that of its setting, or the place after them.
-fn first_other_setting(s: Settings, words: &[u64], i: usize) -> usize
-    requires { ⌜ i ≤ 65536 ⌝ }
-{
-    if !numbers::same(s.stiff_length, line::at(words, i)) {
-        return i;
-    }
-    if !numbers::same(s.stiff_bendtwist0, line::at(words, i + 1)) {
-        return i + 1;
-    }
-    if !numbers::same(s.stiff_bendtwist1, line::at(words, i + 2)) {
-        return i + 2;
-    }
-    if !numbers::same(s.stiff_bendtwist2, line::at(words, i + 3)) {
-        return i + 3;
-    }
-    if !numbers::same(s.conv_ratio, line::at(words, i + 4)) {
-        return i + 4;
-    }
-    i + 5
+fn first_other_setting(s: Settings, words: &[u64], i: usize) -> usize {
+    let numbers = [
+        s.stiff_length,
+        s.stiff_bendtwist0,
+        s.stiff_bendtwist1,
+        s.stiff_bendtwist2,
+        s.conv_ratio,
+    ];
+    std::num::wrapping_add_usize(i, numbers::first_other(&numbers, line::part(words, i, 5)))
 }
 
 // The first place whose word is not that of the record, or how many places it has.

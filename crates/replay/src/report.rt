@@ -3,13 +3,15 @@ use crate::areas;
 use crate::judge::Verdict;
 use crate::tally::Tally;
 
-fn number(n: usize) {
-    io::print_decimal(1, n as u64);
+// A number between two texts.
+fn number(before: &[u8], n: u64, after: &[u8]) {
+    io::write_all(1, before);
+    io::print_decimal(1, n);
+    io::write_all(1, after);
 }
 
 fn place(area: &[u8], i: usize) {
-    io::write_all(1, area);
-    number(i);
+    number(area, i as u64, b"\n");
 }
 
 // The name of the area that a place among the expected words is of, and the place there.
@@ -28,31 +30,24 @@ fn show_place(i: usize) {
 }
 
 fn show_first(line: usize, verdict: Verdict) {
-    io::write_all(1, b"first difference: line ");
-    number(line);
-    io::write_all(1, b", ");
+    number(b"first difference: line ", line as u64, b", ");
     match verdict {
         Verdict::Place(i) => show_place(i),
         Verdict::Work(i) => place(b"work ", i),
         _ => {
-            io::write_all(1, b"answer");
+            io::write_all(1, b"answer\n");
         }
     }
-    io::write_all(1, b"\n");
 }
 
 pub fn show(t: Tally) {
     io::print_decimal(1, t.calls);
-    io::write_all(1, b" calls, ");
-    io::print_decimal(1, t.differ);
-    io::write_all(1, b" differ\n");
+    number(b" calls, ", t.differ, b" differ\n");
     if t.differ != 0 {
         let first = t.first;
         show_first(t.line, first);
     }
     if t.malformed != 0 {
-        io::write_all(1, b"malformed or ended early: line ");
-        number(t.malformed);
-        io::write_all(1, b"\n");
+        place(b"malformed or ended early: line ", t.malformed);
     }
 }

@@ -1,4 +1,4 @@
-// The two steps of the list. Each says whether the answer is the stored one.
+// The two steps of the list, and whether the answer is the stored one.
 use crate::calls;
 use crate::line;
 use crate::numbers;
@@ -22,30 +22,28 @@ fn pick(w: &[u64]) -> Pick {
     Pick::At(line::count(w, 7), goal)
 }
 
-// A step's stored answer: number, energy, count and ratio, zeros where it is refused.
-fn stepped(w: &[u64], answer: StepAnswer) -> bool {
+// Whether the stored answer is these four.
+fn stored(w: &[u64], number: u8, energy: f64, count: usize, ratio: f64) -> bool {
     let from = shape::answer(w);
+    (line::at(w, from) == numbers::wide(number))
+        & numbers::same(energy, line::at(w, from + 1))
+        & (line::count(w, from + 2) == count)
+        & numbers::same(ratio, line::at(w, from + 3))
+}
+
+// All but the number are stored as zeros where the step is refused.
+fn stepped(w: &[u64], answer: StepAnswer) -> bool {
     match answer {
         StepAnswer::Accepted {
             energy,
             ratio,
             count,
-        } => {
-            (line::at(w, from) == 0)
-                & numbers::same(energy, line::at(w, from + 1))
-                & (line::count(w, from + 2) == count)
-                & numbers::same(ratio, line::at(w, from + 3))
-        }
-        StepAnswer::Refused(k) => {
-            calls::said(w, k)
-                & (line::at(w, from + 1) == 0)
-                & (line::at(w, from + 2) == 0)
-                & (line::at(w, from + 3) == 0)
-        }
+        } => stored(w, 0, energy, count, ratio),
+        StepAnswer::Refused(k) => stored(w, k, 0.0, 0, 0.0),
     }
 }
 
-pub fn step_static(
+pub fn step(
     seats: Record,
     rest: &[f64],
     drape: &mut [f64],
@@ -53,21 +51,17 @@ pub fn step_static(
     work: &mut [f64],
     w: &[u64],
 ) -> bool {
+    let seat = calls::seat(w);
     let pick = pick(w);
-    let answer = steps::update_static(seats, rest, drape, pins, work, calls::seat(w), pick);
-    stepped(w, answer)
-}
-
-pub fn step_dynamic(
-    seats: Record,
-    rest: &[f64],
-    drape: &mut [f64],
-    pins: &[u8],
-    work: &mut [f64],
-    w: &[u64],
-) -> bool {
-    let pick = pick(w);
+    if line::at(w, 0) == shape::STATIC {
+        return stepped(
+            w,
+            steps::update_static(seats, rest, drape, pins, work, seat, pick),
+        );
+    }
     let dt = numbers::number(line::at(w, shape::past_pick(w)));
-    let answer = steps::update_dynamic(seats, rest, drape, pins, work, calls::seat(w), pick, dt);
-    stepped(w, answer)
+    stepped(
+        w,
+        steps::update_dynamic(seats, rest, drape, pins, work, seat, pick, dt),
+    )
 }

@@ -6,21 +6,10 @@ use crate::judge;
 use crate::judge::Verdict;
 use crate::lend;
 use crate::line;
+use crate::numbers;
+use crate::record;
 use crate::shape;
 use bench::seats::Record;
-
-// The record after a line, and what the line came to.
-pub struct Turn {
-    pub seats: Record,
-    pub verdict: Verdict,
-}
-
-fn differs(verdict: Verdict) -> bool {
-    match verdict {
-        Verdict::Same => false,
-        _ => true,
-    }
-}
 
 // The last line says how many came before it.
 fn end(w: &[u64], before: usize, is_last: bool) -> Verdict {
@@ -30,122 +19,63 @@ fn end(w: &[u64], before: usize, is_last: bool) -> Verdict {
     Verdict::Malformed
 }
 
-// A call, and what it came to.
-fn tried(
-    seats: Record,
+// What a call begins with: the areas and the record as they are expected, and a work area of which no
+// number may matter.
+fn ready(
     rest: &mut [f64],
     drape: &mut [f64],
     pins: &mut [u8],
-    expected: &mut [u64],
-    w: &[u64],
+    work: &mut [f64],
+    expected: &[u64],
     number: usize,
-) -> Turn {
+) -> Record {
+    numbers::fill(rest, line::part(expected, areas::REST_AT, areas::REST));
+    numbers::fill(drape, line::part(expected, areas::DRAPE_AT, areas::DRAPE));
+    numbers::fill_bytes(pins, line::part(expected, areas::PINS_AT, areas::PINS));
+    garbage::fill(work, number);
+    record::record(expected)
+}
+
+// A call on areas of its own, and what it came to.
+fn called(expected: &mut [u64], w: &[u64], number: usize) -> Verdict {
+    let mut rest = [0.0; areas::REST];
+    let mut drape = [0.0; areas::DRAPE];
+    let mut pins = [0u8; areas::PINS];
     let mut work = [0.0; areas::WORK];
-    garbage::fill(&mut work, number);
-    let made = lend::make(seats, rest, drape, pins, &mut work, w);
-    let after = made.seats;
-    let same = made.same;
-    if !changes::make(w, shape::changes(w), expected) {
-        return Turn {
-            seats: after,
-            verdict: Verdict::Malformed,
-        };
-    }
-    let verdict = judge::judged(
-        after,
-        &rest[..],
-        &drape[..],
-        &pins[..],
-        &work,
+    let seats = ready(
+        &mut rest,
+        &mut drape,
+        &mut pins,
+        &mut work,
         &expected[..],
-        w,
-        same,
         number,
     );
-    Turn {
-        seats: after,
-        verdict,
+    if !changes::make(w, expected) {
+        return Verdict::Malformed;
     }
+    let made = lend::make(seats, &mut rest, &mut drape, &mut pins, &mut work, w);
+    judge::judged(made, &rest, &drape, &pins, &work, &expected[..], w, number)
 }
 
-// Where the call differs, the next begins with what was expected all the same.
-fn settled(
-    t: Turn,
-    rest: &mut [f64],
-    drape: &mut [f64],
-    pins: &mut [u8],
-    expected: &[u64],
-) -> Turn {
-    let verdict = t.verdict;
-    if !differs(verdict) {
-        return t;
+// A change by another hand.
+fn changed(expected: &mut [u64], w: &[u64]) -> Verdict {
+    if changes::make(w, expected) {
+        return Verdict::Change;
     }
-    Turn {
-        seats: changes::restore(rest, drape, pins, expected),
-        verdict,
-    }
-}
-
-fn called(
-    seats: Record,
-    rest: &mut [f64],
-    drape: &mut [f64],
-    pins: &mut [u8],
-    expected: &mut [u64],
-    w: &[u64],
-    number: usize,
-) -> Turn {
-    let t = tried(seats, rest, drape, pins, expected, w, number);
-    settled(t, rest, drape, pins, &expected[..])
-}
-
-// A change by another hand, which is made to the bench's own record and areas too.
-fn changed(
-    seats: Record,
-    rest: &mut [f64],
-    drape: &mut [f64],
-    pins: &mut [u8],
-    expected: &mut [u64],
-    w: &[u64],
-) -> Turn {
-    if !changes::make(w, shape::changes(w), expected) {
-        return Turn {
-            seats,
-            verdict: Verdict::Malformed,
-        };
-    }
-    Turn {
-        seats: changes::restore(rest, drape, pins, &expected[..]),
-        verdict: Verdict::Change,
-    }
+    Verdict::Malformed
 }
 
 // The line of these words; number of them came before it.
-pub fn take_turn(
-    seats: Record,
-    rest: &mut [f64],
-    drape: &mut [f64],
-    pins: &mut [u8],
-    expected: &mut [u64],
-    w: &[u64],
-    number: usize,
-    is_last: bool,
-) -> Turn {
+pub fn take_turn(expected: &mut [u64], w: &[u64], number: usize, is_last: bool) -> Verdict {
     let kind = line::at(w, 0);
     if kind == shape::CHANGE {
-        return changed(seats, rest, drape, pins, expected, w);
+        return changed(expected, w);
     }
     if kind == shape::END {
-        return Turn {
-            seats,
-            verdict: end(w, number, is_last),
-        };
+        return end(w, number, is_last);
     }
-    if !lend::fits(rest.len(), drape.len(), pins.len(), w) {
-        return Turn {
-            seats,
-            verdict: Verdict::Malformed,
-        };
+    if !lend::fits(w) {
+        return Verdict::Malformed;
     }
-    called(seats, rest, drape, pins, expected, w, number)
+    called(expected, w, number)
 }

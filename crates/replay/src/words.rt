@@ -56,31 +56,33 @@ fn malformed() -> Line {
     }
 }
 
+// The byte at a place, 0 past the end.
+fn byte(text: &[u8], i: usize) -> u8 {
+    if i < text.len() {
+        return text[i];
+    }
+    0
+}
+
 // The line that the text begins with, into the words.
 fn read_line(text: &[u8], words: &mut [u64]) -> Line {
     let mut i = 0;
     let mut n = 0;
     while n < words.len() {
         let w = read_word(text, i);
-        let end = w.end;
-        if end <= i {
-            return malformed();
-        }
-        if text.len() <= end {
+        let after = byte(text, w.end);
+        if (w.end <= i) | ((after != b'\n') & (after != b' ')) {
             return malformed();
         }
         words[n] = w.value;
         n += 1;
-        i = end + 1;
-        if text[end] == b'\n' {
+        i = std::num::wrapping_add_usize(w.end, 1);
+        if after == b'\n' {
             return Line {
                 count: n,
                 next: i,
                 is_last: i == text.len(),
             };
-        }
-        if text[end] != b' ' {
-            return malformed();
         }
     }
     malformed()

@@ -7,10 +7,13 @@ use Rattle.replay.proofs.changes.make.Statement.{statement}
 use Rattle.replay.proofs.changes.make.Tie as tie
 
 abbrev Inv-loop : tie.InvT-loop
-Inv-loop w from expected₀ runs i₀ k₀ expected i k = (k ≤ runs) × (length expected ≡ length expected₀)
+Inv-loop w expected₀ from runs i₀ k₀ expected i k = (k ≤ runs) × (length expected ≡ length expected₀)
 
 abbrev μ-loop : tie.MeasureT-loop
-μ-loop w from expected₀ runs i₀ k₀ expected i k = runs - k
+μ-loop w expected₀ from runs i₀ k₀ expected i k = runs - k
+
+changes-requires : tie.Need-changes-requires Inv-loop μ-loop
+changes-requires c κs = search needs
 
 returns : tie.Need-returns Inv-loop μ-loop
 returns c = search needs
@@ -54,6 +57,7 @@ make-spec =
     (tie.spec
     Inv-loop
     μ-loop
+    changes-requires
     returns
     at-requires
     add-i

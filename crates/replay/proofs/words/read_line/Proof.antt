@@ -18,6 +18,9 @@ loop-holds c = search needs
 read-word-requires : tie.Need-read-word-requires Inv-loop μ-loop
 read-word-requires c κs = search needs
 
+byte-requires : tie.Need-byte-requires Inv-loop μ-loop
+byte-requires c κs = search needs
+
 malformed-requires : tie.Need-malformed-requires Inv-loop μ-loop
 malformed-requires c κs = search needs
 
@@ -26,15 +29,6 @@ same-length c = search needs
 
 returns : tie.Need-returns Inv-loop μ-loop
 returns c = search needs
-
-malformed-requires-2 : tie.Need-malformed-requires-2 Inv-loop μ-loop
-malformed-requires-2 c κs = search needs
-
-same-length-2 : tie.Need-same-length-2 Inv-loop μ-loop
-same-length-2 c = search needs
-
-returns-2 : tie.Need-returns-2 Inv-loop μ-loop
-returns-2 c = search needs
 
 mul-words : tie.Need-mul-words Inv-loop μ-loop
 mul-words c = search needs
@@ -45,29 +39,14 @@ slice-write-words c = search needs
 add-n : tie.Need-add-n Inv-loop μ-loop
 add-n c = search needs
 
-add-i : tie.Need-add-i Inv-loop μ-loop
-add-i c = search needs
+wrapping-add-usize-requires : tie.Need-wrapping-add-usize-requires Inv-loop μ-loop
+wrapping-add-usize-requires c κs = search needs
 
-shared-slice-read-if3 : tie.Need-shared-slice-read-if3 Inv-loop μ-loop
-shared-slice-read-if3 c = search needs
+same-length-2 : tie.Need-same-length-2 Inv-loop μ-loop
+same-length-2 c = search needs
 
-same-length-3 : tie.Need-same-length-3 Inv-loop μ-loop
-same-length-3 c = search needs
-
-returns-3 : tie.Need-returns-3 Inv-loop μ-loop
-returns-3 c = search needs
-
-shared-slice-read-if4 : tie.Need-shared-slice-read-if4 Inv-loop μ-loop
-shared-slice-read-if4 c = search needs
-
-malformed-requires-3 : tie.Need-malformed-requires-3 Inv-loop μ-loop
-malformed-requires-3 c κs = search needs
-
-same-length-4 : tie.Need-same-length-4 Inv-loop μ-loop
-same-length-4 c = search needs
-
-returns-4 : tie.Need-returns-4 Inv-loop μ-loop
-returns-4 c = search needs
+returns-2 : tie.Need-returns-2 Inv-loop μ-loop
+returns-2 c = search needs
 
 loop-less : tie.Need-loop-less Inv-loop μ-loop
 loop-less c = search needs
@@ -75,14 +54,14 @@ loop-less c = search needs
 loop-again : tie.Need-loop-again Inv-loop μ-loop
 loop-again c = search needs
 
-malformed-requires-4 : tie.Need-malformed-requires-4 Inv-loop μ-loop
-malformed-requires-4 c κs = search needs
+malformed-requires-2 : tie.Need-malformed-requires-2 Inv-loop μ-loop
+malformed-requires-2 c κs = search needs
 
-same-length-5 : tie.Need-same-length-5 Inv-loop μ-loop
-same-length-5 c = search needs
+same-length-3 : tie.Need-same-length-3 Inv-loop μ-loop
+same-length-3 c = search needs
 
-returns-5 : tie.Need-returns-5 Inv-loop μ-loop
-returns-5 c = search needs
+returns-3 : tie.Need-returns-3 Inv-loop μ-loop
+returns-3 c = search needs
 
 pub read-line-spec : {M : Type 1} → statement M
 read-line-spec =
@@ -92,25 +71,18 @@ read-line-spec =
     μ-loop
     loop-holds
     read-word-requires
+    byte-requires
     malformed-requires
     same-length
     returns
-    malformed-requires-2
-    same-length-2
-    returns-2
     mul-words
     slice-write-words
     add-n
-    add-i
-    shared-slice-read-if3
-    same-length-3
-    returns-3
-    shared-slice-read-if4
-    malformed-requires-3
-    same-length-4
-    returns-4
+    wrapping-add-usize-requires
+    same-length-2
+    returns-2
     loop-less
     loop-again
-    malformed-requires-4
-    same-length-5
-    returns-5)
+    malformed-requires-2
+    same-length-3
+    returns-3)
