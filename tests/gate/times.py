@@ -34,7 +34,7 @@ def main():
     folder = sys.argv[1]
     print('gate: seconds, and of each lane processor seconds')
     for lane in ('library', 'edits', 'proofs'):
-        wall, user, system = [float(t) for t in read(os.path.join(folder, lane + '.time')).replace(',', '.').split()[-3:]] or [0, 0, 0]
+        wall, user, system = [float(t) for t in read(os.path.join(folder, lane + '.time')).replace(',', '.').split()[-3:]] or [float('nan')] * 3
         print(f'{wall:6.0f} {user + system:6.0f}  {lane}')
         for name, took, what in rows_of(read(os.path.join(folder, lane + '.log'))):
             print(f'{took:>6}           {name}' + (f', {what}' if what else ''))
