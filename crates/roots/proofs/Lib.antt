@@ -11,3 +11,4 @@ mod Digit
 mod Steps
 mod Sides
 mod Examples
+mod Theorems

@@ -3,9 +3,10 @@
 -- The root of a / c, in units, is the real number whose square is a * L * L / c. So M halves of a unit are at least the root exactly where 4 * a * (L * L) ≤ M * M * c.
 use mathlib.Core.Path.{_≡_}
 use mathlib.Core.Bool.{Bool, true, false}
-use Prim.Native.Nat.{ℕ, _+_, _-_, _*_, _%_, _^_, _≤_, _<_}
+use Prim.Native.Nat.{ℕ, suc, _+_, _-_, _*_, _%_, _^_, _≤_, _<_}
 use lib.Dec.{T}
-use lib.Ieee.{Float, Format, binary64, low, fits, toBits, ofBits, le}
+use lib.IntN.{ℤ}
+use lib.Ieee.{Float, fin, Format, binary64, prec, low, up, down, fits, toBits, ofBits, le}
 use lib.Ieee.Exact.{HasValue}
 use lib.Ieee.Scale.{finite}
 use lib.Ieee.Positive.{positive, num, den}
@@ -53,3 +54,11 @@ SqrtNeverTies = (x y : Float) (R Y : ℕ) → T (fits binary64 x) → T (positiv
 -- The rounded root is monotone: from x ≤ y, with x not below 0, follows root x ≤ root y. Infinities and both zeros are included.
 abbrev pub SqrtIsMonotone : Type 0
 SqrtIsMonotone = (x y : Float) → T (le (ofBits binary64 0) x) → T (le x y) → T (le (sqrtOf x) (sqrtOf y))
+
+-- The root of every value of binary64, of those too that are not positive, is a value of binary64.
+abbrev pub SqrtFits : Type 0
+SqrtFits = (x : Float) → T (fits binary64 x) → T (fits binary64 (sqrtOf x))
+
+-- A finite value other than 0, in units, is its significand, of no more digits than the format has, times a power of two.
+abbrev pub WrittenInUnits : Type 0
+WrittenInUnits = (f : Format) (s : Bool) (m : ℕ) (e : ℤ) → T (fits f (fin s (suc m) e)) → (suc m < 2 ^ prec f) × ((j : ℕ) × (suc m * up e * 2 ^ low f ≡ suc m * 2 ^ j * down e))

@@ -1,7 +1,7 @@
 -- Document 01's checked examples of the root, P1 to P4: a row each, for one table.
-use mathlib.Core.Bool.{Bool}
+use mathlib.Core.Bool.{Bool, _&&_}
 use Prim.Native.Nat.{ℕ}
-use lib.Dec.{eqb}
+use lib.Dec.{T, eqb}
 use lib.Ieee.{binary64, ofBits, toBits}
 use Rattle.roots.specs.Sqrt.{sqrtOf}
 
@@ -24,3 +24,7 @@ p3 = rootRow 0x0000_0000_0000_0001 0x1E60_0000_0000_0000
 -- The root of -0 is -0.
 unfoldable pub p4 : Bool
 p4 = rootRow 0x8000_0000_0000_0000 0x8000_0000_0000_0000
+
+-- All four hold.
+abbrev pub ExamplesHold : Type 0
+ExamplesHold = T (p1 && p2 && p3 && p4)

@@ -6,3 +6,4 @@ pub mod Steps
 pub mod Opened
 pub mod Examples
 pub mod Samples
+pub mod Theorems

@@ -2,6 +2,7 @@
 use mathlib.Core.Bool.{Bool, true, _&&_}
 use mathlib.Core.List.{List, [], _∷_}
 use Prim.Native.Nat.{ℕ}
+use lib.Dec.{T}
 use Rattle.roots.specs.Examples.{rootRow}
 
 -- An argument and its root.
@@ -97,3 +98,7 @@ generics =
     sample 0x0C4F_9405_A0F7_F64B 0x261F_C9D4_F7C1_21F9 ∷
     sample 0x3CB7_6DA3_EB2E_362B 0x3E53_5C71_99F1_6288 ∷
     []
+
+-- Every sample holds.
+abbrev pub SamplesHold : Type 0
+SamplesHold = T (allHold specials && allHold subnormals && allHold extremes && allHold squares && allHold generics)
