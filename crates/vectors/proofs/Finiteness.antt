@@ -11,7 +11,7 @@ use lib.Ieee.{Float, nan, inf, fin, binary64, up, down, round, sum, sub, eq, ofB
 use lib.Ieee.Fits.{down-pos, and-i, and-l, and-r}
 use lib.Ieee.Scale.{round-same}
 use borrow.Author.Tests.{le-ltb}
-use Rattle.vectors.specs.Finite.{isFinite, vec3IsFinite, vec4IsFinite, mat4IsFinite}
+use Rattle.vectors.specs.Finite.{isFinite, vec3IsFinite, vec4IsFinite, mat4IsFinite, FiniteTests}
 use Rattle.vectors.specs.declared.vec3.Vec3.{Vec3}
 use Rattle.vectors.specs.declared.vec4.Vec4.{Vec4}
 use Rattle.vectors.specs.declared.mat4.Mat4.{Mat4}
@@ -68,3 +68,7 @@ vec4-finite v = four (isFinite (v .x)) (isFinite (v .y)) (isFinite (v .z)) (isFi
 pub mat4-finite : (m : Mat4) → T (mat4IsFinite m) ↔ (T (vec4IsFinite (m .c0)) × T (vec4IsFinite (m .c1)) × T (vec4IsFinite (m .c2)) × T (vec4IsFinite (m .c3)))
 unfolding mat4IsFinite
 mat4-finite m = four (vec4IsFinite (m .c0)) (vec4IsFinite (m .c1)) (vec4IsFinite (m .c2)) (vec4IsFinite (m .c3))
+
+-- ---- all together
+pub finite-tests : FiniteTests
+finite-tests = record { byDifference = by-difference; finiteForm = finite-form; otherForm = other-form; vec3Finite = vec3-finite; vec4Finite = vec4-finite; mat4Finite = mat4-finite }

@@ -11,8 +11,8 @@ use Rattle.vectors.specs.Vec3.{vec3Add, vec3Sub, vec3Scale, vec3AddThree
 use Rattle.vectors.specs.Mat3.{mat3Add, mat3AddThree, mat3Scale, mat3Diagonal, mat3Identity, mat3ScaledOuterProduct, mat3Projection, vec3TimesMat3}
 use Rattle.vectors.specs.Vec4.{vec4Add, vec4Scale, vec4Dot, vec4FromVec3}
 use Rattle.vectors.specs.Mat4.{mat4Add, mat4FromMat3, mat4TimesVec4}
-use Rattle.vectors.specs.Fits.{Vec3Fits, Mat3Fits, Vec4Fits, Mat4Fits}
-use Rattle.vectors.specs.Edge.{measuredOf}
+use Rattle.vectors.specs.Fits.{Vec3Fits, Mat3Fits, Vec4Fits, Mat4Fits, ResultsFit}
+use Rattle.vectors.specs.Edge.{measuredOf, edgeLength}
 use Rattle.vectors.specs.Angle.{seriesOf, sineOf, cosineOf}
 use Rattle.vectors.specs.Rotation.{rotatedOf}
 use Rattle.vectors.specs.declared.vec3.Vec3.{Vec3}
@@ -66,6 +66,10 @@ vec3Orthogonalize-fits v f = vec3Sub-fits f _
 pub measured-fits : (v : Vec3) → T (fits binary64 (measuredOf v .value))
 unfolding measuredOf
 measured-fits v = sqrt-fits (vec3Dot v v) (vec3Dot-fits v v)
+
+pub edgeLength-fits : (p0 p1 : Vec3) → T (fits binary64 (edgeLength p0 p1 .value))
+unfolding edgeLength
+edgeLength-fits p0 p1 = measured-fits (vec3Sub p1 p0)
 
 -- ---- blocks of three by three
 pub mat3Add-fits : (a b : Mat3) → Mat3Fits (mat3Add a b)
@@ -151,3 +155,37 @@ cosine-fits angle = series-fits _ _
 pub rotated-fits : (a b v : Vec3) → Vec3Fits (rotatedOf a b v)
 unfolding rotatedOf
 rotated-fits a b v = (add-fits binary64 _ _, add-fits binary64 _ _, add-fits binary64 _ _)
+
+-- ---- all together
+pub results-fit : ResultsFit
+results-fit = record {
+  vec3AddFits = vec3Add-fits;
+  vec3SubFits = vec3Sub-fits;
+  vec3ScaleFits = vec3Scale-fits;
+  vec3AddThreeFits = vec3AddThree-fits;
+  vec3DotFits = vec3Dot-fits;
+  vec3NormFits = vec3Norm-fits;
+  vec3NormalizeFits = vec3Normalize-fits;
+  vec3CrossFits = vec3Cross-fits;
+  vec3OrthogonalizeFits = vec3Orthogonalize-fits;
+  measuredFits = measured-fits;
+  edgeLengthFits = edgeLength-fits;
+  mat3AddFits = mat3Add-fits;
+  mat3AddThreeFits = mat3AddThree-fits;
+  mat3ScaleFits = mat3Scale-fits;
+  mat3DiagonalFits = mat3Diagonal-fits;
+  mat3IdentityFits = mat3Identity-fits;
+  mat3ScaledOuterProductFits = mat3ScaledOuterProduct-fits;
+  mat3ProjectionFits = mat3Projection-fits;
+  vec3TimesMat3Fits = vec3TimesMat3-fits;
+  vec4AddFits = vec4Add-fits;
+  vec4ScaleFits = vec4Scale-fits;
+  vec4DotFits = vec4Dot-fits;
+  vec4FromVec3Fits = vec4FromVec3-fits;
+  mat4AddFits = mat4Add-fits;
+  mat4FromMat3Fits = mat4FromMat3-fits;
+  mat4TimesVec4Fits = mat4TimesVec4-fits;
+  sineFits = sine-fits;
+  cosineFits = cosine-fits;
+  rotatedFits = rotated-fits;
+}

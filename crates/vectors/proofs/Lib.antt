@@ -4,3 +4,4 @@ pub mod Fitting
 pub mod Series
 pub mod Reversed
 mod Samples
+mod Theorems

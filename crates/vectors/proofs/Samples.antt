@@ -1,9 +1,7 @@
 -- The samples, computed by the checker from the definitions.
-use mathlib.Core.Bool.{_&&_}
-use lib.Dec.{T}
 use Rattle.vectors.specs.Opened.{opened}
-use Rattle.vectors.specs.Samples.{haveBits, angleRow, angles, va, vb, vc, factor, vectors, blocks, wa, wb, fours, turns}
+use Rattle.vectors.specs.Samples.{haveBits, angleRow, angles, va, vb, vc, factor, vectors, blocks, wa, wb, fours, turns, SamplesHold}
 
-samples : T (angles && vectors && blocks && fours && turns)
+pub samples : SamplesHold
 unfolding opened haveBits angleRow angles va vb vc factor vectors blocks wa wb fours turns
 samples = tt

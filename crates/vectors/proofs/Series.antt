@@ -2,15 +2,15 @@
 -- A loop from the last entry down has the series of the entries that it has passed.
 use mathlib.Core.Path.{_≡_, refl}
 use mathlib.Core.Bool.{false, true≢false}
-use mathlib.Core.List.{List, [], _∷_, map}
+use mathlib.Core.List.{List, [], _∷_}
 use Prim.Native.Nat.{ℕ, zero, suc, _≤_, _<_}
 use native.Mathlib.Nat.{not-suc-le-zero}
 use native.Mathlib.Omega.{arith}
 use lib.ListN.{length, getD, drop}
 use lib.Seq.{drop-cons}
-use lib.Ieee.{Float, nan, inf, fin, binary64, ofBits, ofInt, sub, mul, div, rem, lt}
+use lib.Ieee.{Float, nan, inf, fin, ofBits, ofInt, sub, mul, div, rem, lt}
 use Rattle.vectors.specs.Number.{_⊖_, _⊗_, _⊘_, plusOne}
-use Rattle.vectors.specs.Angle.{reducedOf, seriesOf, sineDivisors, cosineDivisors, sineOf, cosineOf}
+use Rattle.vectors.specs.Angle.{reducedOf, seriesOf, sineDivisors, cosineDivisors, sineOf, cosineOf, sineTable, cosineTable}
 use Rattle.vectors.specs.Finite.{isFinite}
 
 -- no entry yet
@@ -30,12 +30,6 @@ all z t l zero h e = e
 all z t l (suc k) h e = absurd (not-suc-le-zero h)
 
 -- The code's tables, as the checker sees them, follow their rule.
-abbrev pub sineTable : List Float
-sineTable = map (ofBits binary64) (0x4018_0000_0000_0000 ∷ 0x4034_0000_0000_0000 ∷ 0x4045_0000_0000_0000 ∷ 0x4052_0000_0000_0000 ∷ 0x405b_8000_0000_0000 ∷ 0x4063_8000_0000_0000 ∷ 0x406a_4000_0000_0000 ∷ 0x4071_0000_0000_0000 ∷ 0x4075_6000_0000_0000 ∷ 0x407a_4000_0000_0000 ∷ 0x407f_a000_0000_0000 ∷ 0x4082_c000_0000_0000 ∷ 0x4085_f000_0000_0000 ∷ [])
-
-abbrev pub cosineTable : List Float
-cosineTable = map (ofBits binary64) (0x4000_0000_0000_0000 ∷ 0x4028_0000_0000_0000 ∷ 0x403e_0000_0000_0000 ∷ 0x404c_0000_0000_0000 ∷ 0x4056_8000_0000_0000 ∷ 0x4060_8000_0000_0000 ∷ 0x4066_c000_0000_0000 ∷ 0x406e_0000_0000_0000 ∷ 0x4073_2000_0000_0000 ∷ 0x4077_c000_0000_0000 ∷ 0x407c_e000_0000_0000 ∷ 0x4081_4000_0000_0000 ∷ 0x4084_5000_0000_0000 ∷ 0x4087_a000_0000_0000 ∷ [])
-
 pub sine-rule : sineTable ≡ sineDivisors
 unfolding ofBits ofInt sineDivisors
 sine-rule = refl

@@ -1,4 +1,5 @@
 -- Sine and cosine: document 01, "Update" (stand-ins).
+use mathlib.Core.Path.{_≡_}
 use mathlib.Core.Bool.{cond}
 use mathlib.Core.List.{List, [], _∷_, map}
 use Prim.Native.Nat.{ℕ, _+_, _-_, _*_}
@@ -40,3 +41,18 @@ sineOf angle = let a = reducedOf angle in a ⊗ seriesOf (a ⊗ a) sineDivisors
 -- for cosine it is t
 unfoldable pub cosineOf : Float → Float
 cosineOf angle = let a = reducedOf angle in seriesOf (a ⊗ a) cosineDivisors
+
+-- The code's tables of these divisors, as the checker sees them.
+abbrev pub sineTable : List Float
+sineTable = map (ofBits binary64) (0x4018_0000_0000_0000 ∷ 0x4034_0000_0000_0000 ∷ 0x4045_0000_0000_0000 ∷ 0x4052_0000_0000_0000 ∷ 0x405b_8000_0000_0000 ∷ 0x4063_8000_0000_0000 ∷ 0x406a_4000_0000_0000 ∷ 0x4071_0000_0000_0000 ∷ 0x4075_6000_0000_0000 ∷ 0x407a_4000_0000_0000 ∷ 0x407f_a000_0000_0000 ∷ 0x4082_c000_0000_0000 ∷ 0x4085_f000_0000_0000 ∷ [])
+
+abbrev pub cosineTable : List Float
+cosineTable = map (ofBits binary64) (0x4000_0000_0000_0000 ∷ 0x4028_0000_0000_0000 ∷ 0x403e_0000_0000_0000 ∷ 0x404c_0000_0000_0000 ∷ 0x4056_8000_0000_0000 ∷ 0x4060_8000_0000_0000 ∷ 0x4066_c000_0000_0000 ∷ 0x406e_0000_0000_0000 ∷ 0x4073_2000_0000_0000 ∷ 0x4077_c000_0000_0000 ∷ 0x407c_e000_0000_0000 ∷ 0x4081_4000_0000_0000 ∷ 0x4084_5000_0000_0000 ∷ 0x4087_a000_0000_0000 ∷ [])
+
+-- The table of sine follows the rule of its divisors.
+abbrev pub SineRule : Type 0
+SineRule = sineTable ≡ sineDivisors
+
+-- So does the table of cosine.
+abbrev pub CosineRule : Type 0
+CosineRule = cosineTable ≡ cosineDivisors

@@ -1,9 +1,10 @@
 -- The length of an edge, and which lengths are accepted.
+use mathlib.Core.Path.{_≡_}
 use mathlib.Core.Bool.{Bool, _&&_}
 use lib.Ieee.{Float, lt}
 use Rattle.roots.specs.Sqrt.{sqrtOf}
 use Rattle.vectors.specs.Number.{plusZero}
-use Rattle.vectors.specs.Vec3.{vec3Sub, vec3Dot}
+use Rattle.vectors.specs.Vec3.{vec3Sub, vec3Dot, vec3Norm}
 use Rattle.vectors.specs.Finite.{isFinite}
 use Rattle.vectors.specs.declared.vec3.Vec3.{Vec3}
 use Rattle.vectors.specs.declared.edge3.EdgeLength.{EdgeLength}
@@ -18,3 +19,7 @@ measuredOf v = record { value = sqrtOf (vec3Dot v v); acceptable = acceptable (v
 -- `edge3::length` is the norm of the difference
 unfoldable pub edgeLength : Vec3 → Vec3 → EdgeLength
 edgeLength p0 p1 = measuredOf (vec3Sub p1 p0)
+
+-- An edge is as long from either end.
+abbrev pub NormReversed : Type 0
+NormReversed = (a b : Vec3) → vec3Norm (vec3Sub a b) ≡ vec3Norm (vec3Sub b a)

@@ -11,3 +11,4 @@ pub mod Angle
 pub mod Rotation
 pub mod Opened
 pub mod Samples
+pub mod Theorems

@@ -2,7 +2,7 @@
 use mathlib.Core.Bool.{Bool, true, false, _&&_}
 use mathlib.Core.List.{List, [], _∷_}
 use Prim.Native.Nat.{ℕ}
-use lib.Dec.{eqb}
+use lib.Dec.{T, eqb}
 use lib.Ieee.{Float, binary64, ofBits, toBits}
 use Rattle.vectors.specs.Vec3.{vec3, vec3Add, vec3Sub, vec3Scale, vec3AddThree, vec3Dot, vec3Norm, vec3Normalize, vec3Cross, vec3Orthogonalize}
 use Rattle.vectors.specs.Mat3.{mat3, mat3ScaledOuterProduct, mat3Projection, vec3TimesMat3}
@@ -98,3 +98,7 @@ fours =
 
 unfoldable pub turns : Bool
 turns = haveBits (vec3Numbers (rotatedOf (vec3Normalize va) (vec3Normalize vb) vc)) (0x3FFE_ABBC_FF1E_6BE4 ∷ 0xBFF5_1953_95D5_C034 ∷ 0xBFF1_5AB7_7915_D857 ∷ [])
+
+-- ---- every sample holds
+abbrev pub SamplesHold : Type 0
+SamplesHold = T (angles && vectors && blocks && fours && turns)
