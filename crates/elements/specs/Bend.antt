@@ -1,4 +1,5 @@
 -- Energy of bend and twist, its gradient and its approximate Hessian: rod3_darboux.rs, `wdwdwdw_darboux_rod_hair_approx_hessian`, lines 413 to 503.
+use mathlib.Core.Path.{_≡_}
 use lib.Ieee.{Float}
 use Rattle.vectors.specs.Number.{_⊕_, _⊗_, plusZero}
 use Rattle.vectors.specs.Vec3.{vec3, vec3Sub, vec3Scale, vec3AddThree, vec3Dot}
@@ -121,3 +122,7 @@ approxHessianOf g k darboux =
 
 unfoldable pub wdwdwdwDarbouxRodHairApproxHessian : Rod → Vec3 → Vec3 → Bend
 wdwdwdwDarbouxRodHairApproxHessian rod k darboux = approxHessianOf (cdcRodDarboux rod) k darboux
+
+-- The energy that the element answers is the one defined alone.
+abbrev pub BendAnswersEnergy : Type 0
+BendAnswersEnergy = (rod : Rod) (k darboux : Vec3) → wdwdwdwDarbouxRodHairApproxHessian rod k darboux .w ≡ bendEnergy k (vec3Sub (cdcRodDarboux rod .c) darboux)

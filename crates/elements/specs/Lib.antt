@@ -9,3 +9,4 @@ pub mod Written
 pub mod SamplesSpring3
 pub mod SamplesDarboux
 pub mod SamplesBend
+pub mod Theorems

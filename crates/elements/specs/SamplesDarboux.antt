@@ -1,7 +1,8 @@
 -- Samples of frames, their gradients, the Darboux vector and the turned frame; P6 of document 01 is the one by hand.
 -- The bits come from the unchanged Rust, compiled over document 01's stand-ins for what it imports (tests/oracle, program `rows`); the inputs are decimals of few digits, and frames made from such.
-use mathlib.Core.Bool.{Bool}
+use mathlib.Core.Bool.{Bool, _&&_}
 use mathlib.Core.List.{[], _∷_}
+use lib.Dec.{T}
 use Rattle.vectors.specs.Mat3.{mat3}
 use Rattle.vectors.specs.Samples.{haveBits, vec3Numbers}
 use Rattle.elements.specs.Darboux.{frameAxis, rodFrameGradient, addGradientOfDotFrameAxis, darbouxRod, cdcRodDarboux}
@@ -104,3 +105,15 @@ turned3 =
     haveBits
     (vec3Numbers (updatedRodFrame (v3 0x3FEA_D009_FA54_5D99 0x3FDE_D530_8CBA_F454 0x3FD0_6BE9_DCDA_4D37) (v3 0xBFEF_5C28_F5C2_8F5D 0x3FF0_F5C2_8F5C_28F6 0x3FF3_5C28_F5C2_8F5C) (v3 0x3FE4_CCCC_CCCC_CCCD 0xBFE0_F5C2_8F5C_28F6 0x3FCE_B851_EB85_1EB8) (number 0x4023_147A_E147_AE14) .x))
     (0xBFEC_2F16_D390_4836 ∷ 0xBFDE_41FD_87A3_E9E0 ∷ 0xBF9C_4D10_7E0A_F24A ∷ [])
+
+-- Every sample of frames and their gradients holds.
+abbrev pub FramesHold : Type 0
+FramesHold = T (frame1 && frame2 && frame3 && dotGradient1 && dotGradient2 && dotGradient3)
+
+-- Every sample of the Darboux vector and its gradient holds.
+abbrev pub DarbouxVectorsHold : Type 0
+DarbouxVectorsHold = T (darboux1 && darboux2 && darboux3 && p6 && darbouxGradient1 && darbouxGradient2 && darbouxGradient3)
+
+-- Every sample of the turned frame holds.
+abbrev pub TurnsHold : Type 0
+TurnsHold = T (turned1 && turned2 && turned3)

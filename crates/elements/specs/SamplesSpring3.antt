@@ -1,7 +1,8 @@
 -- Samples of stretch; P5 of document 01 is the one by hand: ends 0 and (2, 0, 0), rest 1, stiffness 1.
 -- The bits come from the unchanged Rust, compiled over document 01's stand-ins for what it imports (tests/oracle, program `rows`); the inputs are decimals of few digits, and frames made from such.
-use mathlib.Core.Bool.{Bool}
+use mathlib.Core.Bool.{Bool, _&&_}
 use mathlib.Core.List.{[], _∷_}
+use lib.Dec.{T}
 use Rattle.vectors.specs.Samples.{haveBits}
 use Rattle.elements.specs.Spring3.{wdwddwSquaredLengthDifference}
 use Rattle.elements.specs.Written.{number, v3, stretchNumbers}
@@ -30,3 +31,7 @@ p5 =
     haveBits
     (stretchNumbers (wdwddwSquaredLengthDifference (number 0x3FF0_0000_0000_0000) (v3 0x0000_0000_0000_0000 0x0000_0000_0000_0000 0x0000_0000_0000_0000) (v3 0x4000_0000_0000_0000 0x0000_0000_0000_0000 0x0000_0000_0000_0000) (number 0x3FF0_0000_0000_0000)))
     (0x3FE0_0000_0000_0000 ∷ 0xBFF0_0000_0000_0000 ∷ 0x0000_0000_0000_0000 ∷ 0x0000_0000_0000_0000 ∷ 0x3FF0_0000_0000_0000 ∷ 0x8000_0000_0000_0000 ∷ 0x8000_0000_0000_0000 ∷ 0x3FF0_0000_0000_0000 ∷ 0x0000_0000_0000_0000 ∷ 0x0000_0000_0000_0000 ∷ 0x0000_0000_0000_0000 ∷ 0x3FE0_0000_0000_0000 ∷ 0x0000_0000_0000_0000 ∷ 0x0000_0000_0000_0000 ∷ 0x0000_0000_0000_0000 ∷ 0x3FE0_0000_0000_0000 ∷ [])
+
+-- Every sample of stretch holds.
+abbrev pub StretchesHold : Type 0
+StretchesHold = T (stretch1 && stretch2 && stretch3 && p5)

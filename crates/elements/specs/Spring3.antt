@@ -1,4 +1,5 @@
 -- Stretch: spring3.rs, `wdwddw_squared_length_difference`.
+use mathlib.Core.Path.{_≡_}
 use lib.Ieee.{Float, neg}
 use Rattle.vectors.specs.Number.{_⊖_, _⊗_, _⊘_, plusOne}
 use Rattle.vectors.specs.Vec3.{vec3Sub, vec3Scale, vec3Norm}
@@ -33,3 +34,7 @@ wdwddwSquaredLengthDifference stiffness p0 p1 ini =
       same = m;
       other = mat3Scale m (neg plusOne);
     }
+
+-- The energy that the element answers is the one defined alone.
+abbrev pub StretchAnswersEnergy : Type 0
+StretchAnswersEnergy = (stiffness : Float) (p0 p1 : Vec3) (ini : Float) → wdwddwSquaredLengthDifference stiffness p0 p1 ini .w ≡ stretchEnergy stiffness p0 p1 ini

@@ -1,0 +1,22 @@
+-- What is proved of the elements beyond the contracts: each theorem that the documents claim. proofs/Theorems.antt has a proof of every one.
+use Rattle.elements.specs.Spring3.{StretchAnswersEnergy}
+use Rattle.elements.specs.Bend.{BendAnswersEnergy}
+use Rattle.elements.specs.SamplesSpring3.{StretchesHold}
+use Rattle.elements.specs.SamplesDarboux.{FramesHold, DarbouxVectorsHold, TurnsHold}
+use Rattle.elements.specs.SamplesBend.{BendsHold}
+
+pub record Theorems : Type 0 where
+  -- the stretch answers `stretchEnergy`
+  pub stretchAnswersEnergy : StretchAnswersEnergy
+  -- bend and twist answer `bendEnergy`
+  pub bendAnswersEnergy : BendAnswersEnergy
+  -- the samples of stretch, with document 01's P5
+  pub stretches : StretchesHold
+  -- of frames and their gradients
+  pub frames : FramesHold
+  -- of the Darboux vector, with P6, and its gradient
+  pub darbouxVectors : DarbouxVectorsHold
+  -- of the turned frame
+  pub turns : TurnsHold
+  -- of bend and twist
+  pub bends : BendsHold
