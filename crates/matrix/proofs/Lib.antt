@@ -31,3 +31,4 @@ pub mod Going
 pub mod AreaMap
 mod Samples
 pub mod Runs
+mod Theorems

@@ -6,7 +6,7 @@ use Prim.Native.Nat.{ℕ, zero, suc, _+_, _-_, _*_, _≤_, _<_}
 use native.Mathlib.Nat.{le-refl, le-trans, le-add-right, eq-or-lt-of-le}
 use native.Mathlib.Numerals.{add-one}
 use native.Mathlib.Omega.{arith}
-use Rattle.matrix.specs.Layout.{before, after, rowLength, rowStart}
+use Rattle.matrix.specs.Layout.{before, after, rowLength, rowStart, Placed}
 
 pub before-one : (i : ℕ) → i < 2 → before i ≡ i
 unfolding before
@@ -52,12 +52,6 @@ unfolding rowStart
 row-start-next n i = rw (add-one i)
 
 -- in numbers, as the code works it out
-pub record Placed (n i s : ℕ) : Type 0 where
-  pub first : i < 2 → suc i < n → s ≡ 3 * i
-  pub first-last : i < 2 → n ≤ suc i → s ≡ 3 * i - 1
-  pub later : 2 ≤ i → suc i < n → s ≡ 5 * i - 3
-  pub later-last : 2 ≤ i → n ≤ suc i → s ≡ 5 * i - 4
-
 pub placed : (n i : ℕ) → i < n → 2 ≤ n → Placed n i (rowStart n i)
 placed n i b h = record {
   first = λ l m. inner n i m .0 l;

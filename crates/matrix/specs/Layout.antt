@@ -1,6 +1,7 @@
 -- The blocks of the matrix in the area: document 01, "Assembly" (stand-in for `vtx2vtx_rods`).
+use mathlib.Core.Path.{_≡_}
 use mathlib.Core.Bool.{cond}
-use Prim.Native.Nat.{ℕ, zero, suc, _+_, _-_, _≤_, _<_}
+use Prim.Native.Nat.{ℕ, zero, suc, _+_, _-_, _*_, _≤_, _<_}
 use lib.Dec.{ltb}
 
 -- Row i holds columns i-2, i-1, i+1, i+2 that exist, upward: so many before the row's own column.
@@ -43,3 +44,22 @@ pub record Near (n i j : ℕ) : Type 0 where
 -- The numbers that the blocks of at most 32 rows take in the work area: "The areas", 16 for each of 5 * 32 - 6 blocks.
 abbrev pub matrixNumbers : ℕ
 matrixNumbers = 2464
+
+-- The place s where row i begins, in numbers, as the code works it out.
+pub record Placed (n i s : ℕ) : Type 0 where
+  pub first : i < 2 → suc i < n → s ≡ 3 * i
+  pub first-last : i < 2 → n ≤ suc i → s ≡ 3 * i - 1
+  pub later : 2 ≤ i → suc i < n → s ≡ 5 * i - 3
+  pub later-last : 2 ≤ i → n ≤ suc i → s ≡ 5 * i - 4
+
+-- That is the sum's closed form.
+abbrev pub RowStartPlaced : Type 0
+RowStartPlaced = (n i : ℕ) → i < n → 2 ≤ n → Placed n i (rowStart n i)
+
+-- There are 5n - 6 blocks in all.
+abbrev pub AllBlocks : Type 0
+AllBlocks = (n : ℕ) → 2 ≤ n → rowStart n n ≡ 5 * n - 6
+
+-- No two pairs of vertices share a block's place.
+abbrev pub OnePair : Type 0
+OnePair = (n p q i j : ℕ) → Near n p q → Near n i j → blockPlace n p q ≡ blockPlace n i j → (p ≡ i) × (q ≡ j)

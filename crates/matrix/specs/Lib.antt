@@ -20,3 +20,4 @@ pub mod Opened
 pub mod Written
 pub mod SamplesSystem
 pub mod SamplesSolve
+pub mod Theorems

@@ -2,6 +2,7 @@
 -- The bits come from the unchanged Rust, compiled over document 01's stand-ins for what it imports (tests/oracle, program `rows`).
 use mathlib.Core.Bool.{Bool}
 use mathlib.Core.List.{[], _∷_}
+use lib.Dec.{T}
 use Rattle.vectors.specs.Samples.{haveBits}
 use Rattle.elements.specs.Written.{number}
 use Rattle.matrix.specs.Rows.{flat4}
@@ -32,3 +33,15 @@ convergedSolve =
     (conjugateGradient 3 (blocksOf pinnedBlocks) (number 0x3FE6_6666_6666_6666) 1000 (vectorOf pinnedGradient))
     2 0x3FE5_36EE_5DA8_DB4A
     (0x3F2F_EFF8_3096_2148 ∷ 0x0000_0000_0000_0000 ∷ 0xBF35_23D2_CAD3_C83E ∷ 0xBFC0_9ED1_0349_101C ∷ 0xBF72_965B_5FEB_823A ∷ 0xBF92_6E40_19AA_59FE ∷ 0x0000_0000_0000_0000 ∷ 0x3FB8_D8F9_6E64_96AD ∷ 0xBF7F_0E1D_0F99_E692 ∷ 0xBF6E_4294_5E1C_AE81 ∷ 0x3FAB_9C48_7AC3_5227 ∷ 0x0000_0000_0000_0000 ∷ [])
+
+-- The sample of the product holds.
+abbrev pub ProductHolds : Type 0
+ProductHolds = T productSample
+
+-- The solve that the limit ends holds.
+abbrev pub LimitedHolds : Type 0
+LimitedHolds = T limitedSolve
+
+-- The solve that the tolerance ends holds.
+abbrev pub ConvergedHolds : Type 0
+ConvergedHolds = T convergedSolve

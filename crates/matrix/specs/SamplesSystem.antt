@@ -1,8 +1,9 @@
 -- Samples of the system of a strand of three vertices: assembled, with a pick, with inertia, with pins. Each begins with the numbers that the one before it ends with.
 -- The bits come from the unchanged Rust, compiled over document 01's stand-ins for what it imports (tests/oracle, program `rows`). Inputs are decimals of few digits, and frames made from such.
-use mathlib.Core.Bool.{Bool}
+use mathlib.Core.Bool.{Bool, _&&_}
 use mathlib.Core.List.{List, [], _∷_, _++_}
 use Prim.Native.Nat.{ℕ}
+use lib.Dec.{T}
 use Rattle.vectors.specs.Samples.{haveBits}
 use Rattle.elements.specs.Written.{number, v3}
 use Rattle.matrix.specs.Rows.{flat4}
@@ -74,3 +75,19 @@ pinnedBlocks = 0xBFEF_BA5E_3612_B32E ∷ 0x0000_0000_0000_0000 ∷ 0xBFB0_82B7_2
 
 unfoldable pub pinnedBlocksSample : Bool
 pinnedBlocksSample = haveBits (blockNumbers (setFixedBc 3 samplePins (blocksOf inertBlocks))) pinnedBlocks
+
+-- The sample of the energy holds.
+abbrev pub EnergyHolds : Type 0
+EnergyHolds = T hairEnergySample
+
+-- The sample of the assembled system holds.
+abbrev pub AssemblyHolds : Type 0
+AssemblyHolds = T hairSample
+
+-- Those of pick and inertia hold.
+abbrev pub LoadsHold : Type 0
+LoadsHold = T (pickedSample && inertSample)
+
+-- Those of the pinned gradient and the pinned blocks hold.
+abbrev pub PinsHold : Type 0
+PinsHold = T (pinnedGradientSample && pinnedBlocksSample)

@@ -47,3 +47,16 @@ timesFromFirst a v =
 -- No number of v is -0: each stays as it is where it is added to +0.
 abbrev pub NoMinusZero : Vec4 → Type 0
 NoMinusZero v = vec4Add zeroRow v ≡ v
+
+-- To a row without -0 a product may be added that is summed from its first term on: the sum is the same, and has no -0 either.
+abbrev pub AddedFromFirst : Type 0
+AddedFromFirst = (a : Mat4) (v s r : Vec4) → NoMinusZero s → r ≡ vec4Add s (timesFromFirst a v) → (r ≡ vec4Add s (mat4TimesVec4 a v)) × NoMinusZero r
+
+-- A row that begins as the old one by 0, added to +0, has no -0.
+abbrev pub BegunFromZero : Type 0
+BegunFromZero = (old s r : Vec4) → s ≡ vec4Scale old plusZero → r ≡ vec4Add zeroRow s → (r ≡ vec4Add zeroRow (vec4Scale old plusZero)) × NoMinusZero r
+
+-- A row that begins so is in the end the one that begins without +0.
+abbrev pub EndsTheSame : Type 0
+EndsTheSame = (old : Vec4) (ms ns : List Mat4) (xs ys : List Vec4) (a : Mat4) (v : Vec4)
+    → vec4Add (addProducts (addProducts (vec4Add zeroRow (vec4Scale old plusZero)) ms xs) ns ys) (mat4TimesVec4 a v) ≡ vec4Add (addProducts (addProducts (vec4Scale old plusZero) ms xs) ns ys) (mat4TimesVec4 a v)
