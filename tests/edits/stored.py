@@ -12,7 +12,7 @@ import rooms
 from edit import read, write
 
 HERE = 'see the first lines of tests/edits/stored.py'
-SAMPLES = re.compile(r'^(?:pub )?mod (Samples\w*|Examples)\n', re.M)
+SAMPLES = re.compile(r'^(?:pub )?mod (Samples\w*|Examples|Theorems)\n', re.M)
 WORKERS = int(os.environ.get('RT_JOBS') or min(2, len(os.sched_getaffinity(0))))
 CHECKS = threading.BoundedSemaphore(WORKERS)
 
@@ -55,7 +55,8 @@ def build_of(folder):
 
 
 def without_samples(proofs):
-    """Leaves out the proofs that only compute samples and examples, which takes seconds and which no other proof rests on."""
+    """Leaves out the proofs that only compute samples and examples, which takes seconds, and the list of theorems, which cites them. No
+    other proof rests on these."""
     root = os.path.join(proofs, 'Lib.antt')
     if os.path.exists(root):
         text = read(root)
