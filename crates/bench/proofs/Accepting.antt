@@ -1,31 +1,31 @@
--- A step that is accepted has passed each of its refusals, so what they test is finite; the rest is what its stores leave of the drape.
-use mathlib.Core.Path.{_≡_, sym, ap, _∙_}
+-- A step that is accepted has passed each of its rows, so what they test is finite; the rest is what its stores leave of the drape.
+use mathlib.Core.Path.{_≡_, refl, sym, ap, _∙_}
 use mathlib.Core.Bool.{Bool, true, _&&_}
 use mathlib.Core.List.{List}
-use Prim.Native.Nat.{ℕ, zero, suc, _+_, _*_, _≤_, _<_}
+use mathlib.Core.Logic.{_≢_}
+use Prim.Native.Nat.{ℕ, zero, suc, _+_, _*_, _<_}
 use native.Mathlib.Omega.{arith}
-use lib.ListN.{length, getD}
+use lib.ListN.{getD}
 use lib.Ieee.{Float, nan}
-use borrow.Author.Tests.{not-false}
 use Rattle.vectors.specs.Finite.{isFinite, vec4IsFinite}
-use Rattle.vectors.specs.declared.vec4.Vec4.{Vec4}
+use Rattle.vectors.specs.declared.vec3.Vec3.{Vec3}
 use Rattle.matrix.specs.Parts.{part}
+use Rattle.matrix.specs.Rows.{row3}
 use Rattle.matrix.specs.System.{System, every, systemIsFinite}
-use Rattle.matrix.specs.HairSystem.{Shape}
 use Rattle.matrix.specs.ConjugateGradient.{Outcome}
-use Rattle.matrix.proofs.Parts.{table-of, length-part, getD-part}
-use Rattle.matrix.proofs.Every.{and-left, and-right, every-at}
+use Rattle.matrix.proofs.Parts.{length-part, getD-part}
+use Rattle.matrix.proofs.Every.{and-left, and-right}
 use Rattle.bench.specs.declared.answers.Pick.{Pick}
-use Rattle.bench.specs.declared.answers.StepAnswer.the-variants.{Accepted}
 use Rattle.bench.specs.Areas.{vectorPart, placePositions, placeFrames, placeVelocities}
 use Rattle.bench.specs.Strand.{Strand}
-use Rattle.bench.specs.Verdicts.{reported, done}
-use Rattle.bench.specs.Update.{updateSolutionHair}
-use Rattle.bench.specs.Step.{begun, outcomeIsFinite, drapeIsFinite, withDrape, finished, stepped}
-use Rattle.bench.specs.Calls.{numberBy}
-use Rattle.bench.specs.Accepted.{Whole, StepAccepts}
-use Rattle.bench.proofs.Refusals.{passed}
+use Rattle.bench.specs.Rows.{first, inTable}
+use Rattle.bench.specs.PinStory.{position}
+use Rattle.bench.specs.Step.{Time, beginRows, outcomeIsFinite, drapeIsFinite, finishRows, updateOf}
+use Rattle.bench.specs.Accepted.{Whole, StepLeaves}
+use Rattle.bench.proofs.RowLaws.{demandsOf, holds}
+use Rattle.bench.proofs.Components.{component, row-component, pinned-component}
 use Rattle.bench.proofs.StoredDrape.{Stays}
+use Rattle.bench.proofs.CopyFinite.{number-finite, CopyIsFinite, all-finite}
 
 -- ---- numbers of what was tested
 system-energy : (e : Float) (s : System) → systemIsFinite e s ≡ true → isFinite e ≡ true
@@ -35,11 +35,6 @@ system-energy e s h = and-left _ _ (and-left (isFinite e && every vec4IsFinite (
 outcome-ratio : (o : Outcome) → outcomeIsFinite o ≡ true → isFinite (o .ratio) ≡ true
 unfolding outcomeIsFinite
 outcome-ratio o h = and-left _ _ h
-
-part-number : (d : List Float) (o m k : ℕ) → o + m ≤ length d → every isFinite (part d o m) ≡ true → k < m → isFinite (getD d (o + k) nan) ≡ true
-part-number d o m k room h b =
-    let l = part d o m in
-    sym (ap isFinite (getD-part d o m k nan b)) ∙ every-at isFinite (length l) (λ i. getD l i nan) (ap (every isFinite) (table-of nan l) ∙ h) k (omega (arith, length-part d o m room))
 
 abbrev vectorsFinite : ℕ → List Float → ℕ → Bool
 vectorsFinite n d o = every isFinite (part d o (3 * n))
@@ -51,45 +46,43 @@ drape-part n d h (suc zero) b = and-right (vectorsFinite n d placePositions) _ (
 drape-part n d h (suc (suc zero)) b = and-right (vectorsFinite n d placePositions && vectorsFinite n d placeFrames) _ h
 drape-part n d h (suc (suc (suc p))) b = absurd (omega arith)
 
--- ---- from the shape now, of either kind
-same-answer : {e f x y : Float} {j k : ℕ} {t u : Strand} → done (reported (Accepted e x j)) t ≡ done (reported (Accepted f y k)) u → (e ≡ f) × ((x ≡ y) × (t ≡ u))
-same-answer h = (cc, (cc, cc))
+-- ---- of either kind
+module _ (t : Strand) (w : Whole t) (pick : Pick) (time : Time) (h : first (updateOf t pick time .rows) ≡ 0) where
+  in-table : every inTable (updateOf t pick time .rows) ≡ true
+  unfolding updateOf beginRows finishRows every
+  in-table = refl
 
-module _ (t u : Strand) (now : Shape) (leave : Shape → List Float) (e x : Float) where
-  -- what the step took t to, with its solution, and what its refusals have shown
-  pub record Passes : Type 0 where
-    pub solution : List Vec4
-    pub is : withDrape t (leave (updateSolutionHair (t .count) (t .pins) now solution)) ≡ u
-    pub energy : isFinite e ≡ true
-    pub ratio : isFinite x ≡ true
-    pub drape : drapeIsFinite (t .count) (u .drape) ≡ true
+  energy-finite : isFinite (updateOf t pick time .energy) ≡ true
+  unfolding updateOf beginRows finishRows demandsOf
+  energy-finite = system-energy _ _ (holds (updateOf t pick time .rows) in-table h 8 0)
 
-  pub passes : (pick : Pick) (load : System → System) (k : ℕ) → stepped t now pick load leave ≡ done (reported (Accepted e x k)) u → Passes
-  unfolding stepped begun finished
-  passes pick load k h =
-      let p₇ = passed 7 _ _ (omega arith) (ap numberBy h) in
-      let p₈ = passed 8 _ _ (omega arith) (p₇ .then) in
-      let p₉ = passed 9 _ _ (omega arith) (p₈ .then) in
-      let p₁₀ = passed 10 _ _ (omega arith) (p₉ .then) in
-      let p₁₁ = passed 11 _ _ (omega arith) (p₁₀ .then) in
-      let s = same-answer (sym (p₇ .is ∙ p₈ .is ∙ p₉ .is ∙ p₁₀ .is ∙ p₁₁ .is) ∙ h) in
-      record {
-        solution = _;
-        is = s .1 .1;
-        energy = sym (ap isFinite (s .0)) ∙ system-energy _ _ (not-false _ (p₈ .test));
-        ratio = sym (ap isFinite (s .1 .0)) ∙ outcome-ratio _ (not-false _ (p₉ .test));
-        drape = sym (ap (λ (y : Strand). drapeIsFinite (t .count) (y .drape)) (s .1 .1)) ∙ not-false _ (p₁₁ .test);
-      }
+  ratio-finite : isFinite (updateOf t pick time .ratio) ≡ true
+  unfolding updateOf beginRows finishRows demandsOf
+  ratio-finite = outcome-ratio _ (holds (updateOf t pick time .rows) in-table h 9 0)
 
-  pub accepts : (w : Whole t) → ((v : List Vec4) → Stays t w (leave (updateSolutionHair (t .count) (t .pins) now v))) → Passes → StepAccepts t u e x
-  accepts w stays p =
-      let s = rw (ap (λ (y : Strand). y .drape) (p .is)) at (stays (p .solution)) in
-      record {
-        energyFinite = p .energy;
-        ratioFinite = p .ratio;
-        drapeFinite = λ q k a. part-number (u .drape) (vectorPart * q) (3 * t .count) k (omega (arith, s .long, w .drape, w .count)) (drape-part (t .count) (u .drape) (p .drape) q a);
-        pinned = s .pinned;
-        past = λ q k _. s .past q k;
-        same = sym (p .is) ∙ ap (λ (y : Strand). withDrape t (y .drape)) (p .is);
-        long = s .long;
-      }
+  drape-tested : drapeIsFinite (t .count) (updateOf t pick time .drape) ≡ true
+  unfolding updateOf beginRows finishRows demandsOf
+  drape-tested = holds (updateOf t pick time .rows) in-table h 11 0
+
+  module _ {new : ℕ → Vec3} (s : Stays t w new (updateOf t pick time .drape)) where
+    abbrev d : List Float
+    d = updateOf t pick time .drape
+
+    drape-finite : (p k : ℕ) → p < 3 → k < 3 * t .count → isFinite (getD d (vectorPart * p + k) nan) ≡ true
+    drape-finite p k a b =
+        let l = length-part d (vectorPart * p) (3 * t .count) (omega (arith, s .long, w .drape, w .count)) in
+        sym (ap isFinite (getD-part d (vectorPart * p) (3 * t .count) k nan b)) ∙ number-finite (part d (vectorPart * p) (3 * t .count)) (drape-part (t .count) d drape-tested p a) k (omega (arith, l))
+
+    pinned-stays : (i j : ℕ) → i < t .count → j < 3 → getD (t .pins) (4 * i + j) 0 ≢ 0 → position i j d ≡ position i j (t .drape)
+    pinned-stays i j a b p = row-component d (3 * i) j b ∙ ap (component j) (s .positions i a) ∙ pinned-component (t .pins) (4 * i) (row3 (t .drape) (3 * i)) (new i) j b p ∙ sym (row-component (t .drape) (3 * i) j b)
+
+    pub accepts : CopyIsFinite t d → StepLeaves t (updateOf t pick time)
+    accepts c = record {
+      energyFinite = energy-finite;
+      ratioFinite = ratio-finite;
+      drapeFinite = drape-finite;
+      allFinite = all-finite t w d (s .long) drape-finite (s .past) c;
+      pinned = pinned-stays;
+      past = λ p k _. s .past p k;
+      long = s .long;
+    }

@@ -1,31 +1,31 @@
--- How a step ends: the verdict of the last refusals, by the first of their tests that fails.
+-- How a step ends: which of its last three rows is the first that fails, by the tests that the code makes in their order.
 use mathlib.Core.Path.{_≡_}
 use mathlib.Core.Bool.{true, false}
 use mathlib.Core.List.{List}
+use Prim.Native.Nat.{ℕ}
 use lib.Ieee.{Float}
+use Rattle.matrix.specs.System.{every}
 use Rattle.matrix.specs.HairSystem.{Shape}
 use Rattle.matrix.specs.ConjugateGradient.{Outcome}
-use Rattle.bench.specs.declared.answers.StepAnswer.the-variants.{Accepted}
-use Rattle.bench.specs.Strand.{Strand}
-use Rattle.bench.specs.Verdicts.{reported, declined, done, decline}
-use Rattle.bench.specs.Update.{turnsFit, updateSolutionHair}
-use Rattle.bench.specs.Step.{outcomeIsFinite, drapeIsFinite, withDrape, finished}
+use Rattle.bench.specs.Rows.{first}
+use Rattle.bench.specs.Update.{turnsFit}
+use Rattle.bench.specs.Step.{outcomeIsFinite, drapeIsFinite, finishRows}
 
-module _ (t : Strand) (now : Shape) (leave : Shape → List Float) (energy : Float) (o : Outcome) where
-  pub ends-nine : outcomeIsFinite o ≡ false → finished t now leave energy o ≡ declined 9
-  unfolding finished decline
+module _ (n : ℕ) (pins : List ℕ) (now : Shape) (o : Outcome) (d : List Float) where
+  pub ends-nine : outcomeIsFinite o ≡ false → first (finishRows n pins now o d) ≡ 9
+  unfolding finishRows first every
   ends-nine h = rw h
 
   module _ (h : outcomeIsFinite o ≡ true) where
-    pub ends-ten : turnsFit (t .count) (t .pins) now (o .solution) ≡ false → finished t now leave energy o ≡ declined 10
-    unfolding finished decline
+    pub ends-ten : turnsFit n pins now (o .solution) ≡ false → first (finishRows n pins now o d) ≡ 10
+    unfolding finishRows first every
     ends-ten g = rw (h, g)
 
-    module _ (g : turnsFit (t .count) (t .pins) now (o .solution) ≡ true) (s : Shape) (e : updateSolutionHair (t .count) (t .pins) now (o .solution) ≡ s) where
-      pub ends-eleven : drapeIsFinite (t .count) (leave s) ≡ false → finished t now leave energy o ≡ declined 11
-      unfolding finished decline
-      ends-eleven f = rw (h, g, e, f)
+    module _ (g : turnsFit n pins now (o .solution) ≡ true) where
+      pub ends-eleven : drapeIsFinite n d ≡ false → first (finishRows n pins now o d) ≡ 11
+      unfolding finishRows first every
+      ends-eleven f = rw (h, g, f)
 
-      pub ends-well : drapeIsFinite (t .count) (leave s) ≡ true → finished t now leave energy o ≡ done (reported (Accepted energy (o .ratio) (o .count))) (withDrape t (leave s))
-      unfolding finished decline
-      ends-well f = rw (h, g, e, f)
+      pub ends-well : drapeIsFinite n d ≡ true → first (finishRows n pins now o d) ≡ 0
+      unfolding finishRows first every
+      ends-well f = rw (h, g, f)

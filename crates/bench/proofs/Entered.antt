@@ -1,66 +1,94 @@
--- What every call has in common: one that is answered with 0 has passed refusals 1 and 2, and its verdict is that of its strand; a declined one answers its number and leaves the bench.
-use mathlib.Core.Path.{_≡_, sym, ap, _∙_}
-use mathlib.Core.Bool.{Bool, true, _&&_}
+-- What every call has in common: a refused one answers its number and leaves the bench, and an accepted one does what its case says.
+-- A call on a seat that is accepted has passed refusals 1 and 2, so the areas that it is lent have their lengths and its seat is a good one; the rows of its own request are passed, too.
+use mathlib.Core.Path.{_≡_, refl, sym, ap, _∙_}
+use mathlib.Core.Bool.{Bool, true, false, not, _||_, false≢true}
+use mathlib.Core.List.{List, [], _∷_}
 use mathlib.Core.Logic.{_≢_}
-use Prim.Native.Nat.{ℕ, _≤_, _<_}
-use native.Mathlib.Omega.{arith}
+use Prim.Native.Nat.{ℕ, zero, suc, _≤_, _<_}
+use lib.Dec.{eqb}
 use lib.ListN.{length, getD}
-use borrow.Author.Tests.{ltb-true, eqb-true, not-false}
-use Rattle.matrix.proofs.Every.{and-left, and-right, every-at}
+use lib.Ieee.{Float}
+use borrow.Author.Tests.{eqb-true}
+use Rattle.matrix.specs.Area.{workNumbers}
+use Rattle.matrix.specs.System.{every}
 use Rattle.bench.specs.Areas.{seats, restNumbers, drapeNumbers, pinBytes}
-use Rattle.bench.specs.Strand.{Strand, Bench, strandOf, putStrand, noSettings}
-use Rattle.bench.specs.Given.{goodSeat, goodRecord}
-use Rattle.bench.specs.Verdicts.{Answer, said, done}
-use Rattle.bench.specs.Calls.{Call, refusal, restLong, drapeLong, pinsLong, onStrand, lentLong, verdict, numberBy, answerBy, afterBy, numberOf, answerOf, afterOf}
-use Rattle.bench.proofs.SeatParts.{small-seat}
-use Rattle.bench.proofs.Refusals.{passed}
-use Rattle.bench.proofs.Local.{answered}
+use Rattle.bench.specs.Strand.{Bench, strandOf, Left, putAll, entryOf}
+use Rattle.bench.specs.Rows.{first}
+use Rattle.bench.specs.Answers.{Answer}
+use Rattle.bench.specs.Asks.{Request, Asks, Call, callWith, Lends, lends, Lent, lentOf}
+use Rattle.bench.specs.Requests.{caseAt}
+use Rattle.bench.specs.Calls.{restLong, drapeLong, pinsLong, lentLong, seatRows, caseOf, refusal, answerBy, leavesBy, doneOf, numberOf, answerOf, afterOf}
+use Rattle.bench.proofs.RowLaws.{held-at, second-none}
+use Rattle.bench.proofs.EntryRows.{entry-passed}
+use Rattle.bench.proofs.GoodSeats.{Between, taken-seat, small-seat}
+
+-- ---- every call
+pub answer-refused : (a : Asks) (k : ℕ) (r : Answer) → k ≢ 0 → answerBy a k r ≡ refusal a k
+answer-refused a zero r n = absurd (n refl)
+answer-refused a (suc k) r n = refl
+
+pub leaves-refused : (k : ℕ) (ls : List Left) → k ≢ 0 → leavesBy k ls ≡ []
+leaves-refused zero ls n = absurd (n refl)
+leaves-refused (suc k) ls n = refl
 
 module _ (c : Call) (b : Bench) where
-  pub record Entered : Type 0 where
-    pub long : lentLong (c .request) b ≡ true
-    pub seat : c .seat < seats
-    pub count : getD (b .seats .counts) (c .seat) 0 ≤ 32
-    pub is : verdict c b ≡ onStrand (c .request) (strandOf (c .seat) b)
-    pub then : numberBy (onStrand (c .request) (strandOf (c .seat) b)) ≡ 0
+  pub call-declined : (k : ℕ) → k ≡ numberOf c b → k ≢ 0 → (refusal (c .asks) k ≡ answerOf c b) × (b ≡ afterOf c b)
+  unfolding doneOf putAll
+  call-declined k e n =
+      let d = caseOf (c .asks) (lentOf c) b in
+      let m : numberOf c b ≢ 0 = λ z. n (e ∙ z) in
+      (ap (refusal (c .asks)) e ∙ sym (answer-refused (c .asks) (numberOf c b) (d .answer) m), sym (ap (λ (l : List Left). putAll l b) (leaves-refused (numberOf c b) (d .leaves) m)))
 
-  pub entered : numberOf c b ≡ 0 → Entered
-  unfolding numberOf verdict goodRecord
-  entered e =
-      let p₁ = passed 1 _ _ (omega arith) e in
-      let p₂ = passed 2 _ _ (omega arith) (p₁ .then) in
-      let a = not-false _ (p₁ .test) in
-      let m : c .seat < seats = ltb-true (c .seat) seats (not-false _ (p₂ .test)) in
-      let fit : (s : ℕ) → Bool = λ s. goodSeat (getD (b .seats .counts) s 0) (getD (b .seats .settings) s noSettings) in
+  pub call-done : (k : ℕ) → k ≡ numberOf c b → k ≡ 0 → (caseOf (c .asks) (lentOf c) b .answer ≡ answerOf c b) × (putAll (caseOf (c .asks) (lentOf c) b .leaves) b ≡ afterOf c b)
+  unfolding doneOf
+  call-done k e z =
+      let d = caseOf (c .asks) (lentOf c) b in
+      let h = sym e ∙ z in
+      (sym (ap (λ (n : ℕ). answerBy (c .asks) n (d .answer)) h), sym (ap (λ (n : ℕ). putAll (leavesBy n (d .leaves)) b) h))
+
+-- ---- the areas that are lent
+asked-of : (e l : Bool) → (not e || l) ≡ true → e ≡ true → l ≡ true
+asked-of true l h q = h
+asked-of false l h q = absurd (false≢true q)
+
+module _ (e : Lends) (l : Lent) (b : Bench) where
+  pub record Areas : Type 0 where
+    pub rest : e .rest ≡ true → length (b .rest) ≡ restNumbers
+    pub drape : e .drape ≡ true → length (b .drape) ≡ drapeNumbers
+    pub pins : e .pins ≡ true → length (b .pins) ≡ pinBytes
+    pub work : e .work ≡ true → l .workLength ≡ workNumbers
+
+  pub areas : lentLong e l b ≡ true → Areas
+  unfolding lentLong
+  areas h =
+      let at : (i : ℕ) → getD ((not (e .rest) || restLong b) ∷ (not (e .drape) || drapeLong b) ∷ (not (e .pins) || pinsLong b) ∷ (not (e .work) || eqb (l .workLength) workNumbers) ∷ []) i true ≡ true = λ i. held-at _ i h in
       record {
-        long = and-left (lentLong (c .request) b) _ a;
-        seat = m;
-        count = small-seat _ _ (every-at fit seats (λ s. s) (and-right (lentLong (c .request) b) _ a) (c .seat) m);
-        is = p₁ .is ∙ p₂ .is;
-        then = p₂ .then;
+        rest = λ q. eqb-true _ _ (asked-of (e .rest) (restLong b) (at 0) q);
+        drape = λ q. eqb-true _ _ (asked-of (e .drape) (drapeLong b) (at 1) q);
+        pins = λ q. eqb-true _ _ (asked-of (e .pins) (pinsLong b) (at 2) q);
+        work = λ q. eqb-true _ _ (asked-of (e .work) (eqb (l .workLength) workNumbers) (at 3) q);
       }
 
-  pub call-declined : (k : ℕ) → refusal (c .request) k ≡ said k → k ≡ numberOf c b → k ≢ 0 → (said k ≡ answerOf c b) × (b ≡ afterOf c b)
-  call-declined k r e n =
-      let a = answered c b in
-      let m : numberOf c b ≢ 0 = λ q. n (e ∙ q) in
-      (sym r ∙ ap (refusal (c .request)) e ∙ sym (a .declined m), sym (a .left m))
+-- ---- a call on a seat
+module _ (w : List Float) (s : ℕ) (a : Request) (b : Bench) where
+  pub record Entered : Type 0 where
+    pub areas : Areas (lends a) (lentOf (callWith w s a)) b
+    pub seat : s < seats
+    pub small : getD (b .seats .counts) s 0 ≤ 32
+    pub taken : getD (b .seats .counts) s 0 ≢ 0 → Between (getD (b .seats .counts) s 0)
+    pub rows : first (caseAt a (strandOf s b) .rows) ≡ 0
 
-  pub call-done : (a : Answer) (x : Strand) → verdict c b ≡ done a x → (a ≡ answerOf c b) × (putStrand (c .seat) x b ≡ afterOf c b)
-  unfolding answerOf afterOf
-  call-done a x e = (sym (ap (answerBy (c .request)) e), sym (ap (afterBy (c .seat) b) e))
-
--- the three areas that a call is lent which fills or empties a seat
-pub record Lent (b : Bench) : Type 0 where
-  pub rest : length (b .rest) ≡ restNumbers
-  pub drape : length (b .drape) ≡ drapeNumbers
-  pub pins : length (b .pins) ≡ pinBytes
-
-pub lent : (b : Bench) → (restLong b && drapeLong b && pinsLong b) ≡ true → Lent b
-lent b h =
-    let m = and-left (restLong b && drapeLong b) (pinsLong b) h in
-    record {
-      rest = eqb-true _ _ (and-left (restLong b) (drapeLong b) m);
-      drape = eqb-true _ _ (and-right (restLong b) (drapeLong b) m);
-      pins = eqb-true _ _ (and-right (restLong b && drapeLong b) (pinsLong b) h);
-    }
+  pub entered : (k : ℕ) → k ≡ numberOf (callWith w s a) b → k ≡ 0 → Entered
+  unfolding doneOf caseOf seatRows every
+  entered k e q =
+      let h = sym e ∙ q in
+      let ps = seatRows (lentLong (lends a) (lentOf (callWith w s a)) b) s (b .seats) in
+      let rs = caseAt a (strandOf s b) .rows in
+      let p = entry-passed _ s (b .seats) rs h in
+      record {
+        areas = areas (lends a) _ b (p .lengths);
+        seat = p .seat;
+        small = small-seat (entryOf s (b .seats)) (p .good);
+        taken = taken-seat (entryOf s (b .seats)) (p .good);
+        rows = second-none ps rs refl h;
+      }

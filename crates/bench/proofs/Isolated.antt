@@ -1,53 +1,59 @@
 -- The theorem: a seat alone is a party, and the new bench agrees with itself. The pins are followed through the list, call by call, from the empty seat, and what work areas hold does not matter.
 use mathlib.Core.Path.{_≡_, refl, sym, ap, _∙_}
-use mathlib.Core.Bool.{true, false, cond, _&&_}
-use mathlib.Core.List.{List, [], _∷_, _++_}
+use mathlib.Core.Bool.{Bool, true, false, false≢true, or-false}
+use mathlib.Core.List.{List, [], _∷_}
 use Prim.Native.Nat.{ℕ, _<_}
-use native.Mathlib.Omega.{arith}
-use lib.Dec.{eqb}
-use lib.ListN.{getD-replicate}
-use borrow.Author.Tests.{eq-eqb}
+use lib.Dec.{eqb, ltb}
+use borrow.Author.Tests.{eq-eqb, eqb-true}
+use Rattle.matrix.specs.System.{every}
 use Rattle.bench.specs.Areas.{seats}
-use Rattle.bench.specs.Strand.{Strand, Bench, newRecord, newBench, strandOf}
-use Rattle.bench.specs.Calls.{Call, answerOf, afterOf}
-use Rattle.bench.specs.Isolation.{on, solo, after, Event, accepts, eventsOf, history, position, Told, nothing, since, told, Kept, Isolation}
-use Rattle.bench.proofs.SeatParts.{Good, good-new}
-use Rattle.bench.proofs.Tracking.{Tracks}
-use Rattle.bench.proofs.Local.{local, single, tracks-call}
+use Rattle.bench.specs.Strand.{Bench, newBench, strandOf}
+use Rattle.bench.specs.Rows.{any}
+use Rattle.bench.specs.Answers.{finiteAnswer}
+use Rattle.bench.specs.Asks.{Asks, of, Call}
+use Rattle.bench.specs.Calls.{afterOf}
+use Rattle.bench.specs.Runs.{run, after, keptBy, answersTo}
+use Rattle.bench.specs.PinStory.{eventsOf, history, Story, empty, story}
+use Rattle.bench.specs.Isolation.{Isolation}
+use Rattle.matrix.proofs.Cases.{by-test}
+use Rattle.bench.proofs.SeatParts.{Good, good-new, empty-new}
+use Rattle.bench.proofs.Tracking.{Tracks, story-append, stays-by}
+use Rattle.bench.proofs.EveryCall.{finite-answer, good-after, tracks-call}
 use Rattle.bench.proofs.Contents.{same-answers, same-after}
-use Rattle.bench.proofs.Lists.{Respects, alike-lists, respected}
+use Rattle.bench.proofs.Lists.{Respected, none, more, Closed, alike-lists, respects}
 
 -- ---- the pins
-told-append : (i j : ℕ) (t : Told) (es fs : List Event) → told i j t (es ++ fs) ≡ told i j (told i j t es) fs
-unfolding told
-told-append i j t [] fs = refl
-told-append i j t (e ∷ es) fs = told-append i j _ es fs
-
-tracks-list : (i j s : ℕ) → s < seats → (cs : List Call) (t : Told) (b : Bench) → Good b → Tracks i j t (strandOf s b) → Tracks i j (told i j t (history s cs b)) (strandOf s (after cs b))
-unfolding history after told
+tracks-list : (i j s : ℕ) → s < seats → (cs : List Call) (t : Story) (b : Bench) → Good b → Tracks i j t (strandOf s b) → Tracks i j (story i j t (history s cs b)) (strandOf s (after cs b))
+unfolding history run story
 tracks-list i j s m [] t b g q = q
 tracks-list i j s m (c ∷ cs) t b g q =
-    let es = cond (on s c && accepts (answerOf c b)) (eventsOf (c .request)) [] in
-    rw (told-append i j t es (history s cs (afterOf c b))) (tracks-list i j s m cs (told i j t es) (afterOf c b) (local c .good b g) (tracks-call i j t b g c s m q))
+    rw (story-append i j t (eventsOf s c b) (history s cs (afterOf c b))) (tracks-list i j s m cs (story i j t (eventsOf s c b)) (afterOf c b) (good-after c b g) (tracks-call c i j t b g s m q))
 
-kept-by : (i j : ℕ) (t : Told) (x : Strand) → Tracks i j t x → i < x .count → j < 3 → Kept t (position i j (x .drape))
-kept-by i j nothing x q u v = omega arith
-kept-by i j (since g p true) x q u v = q u v .1 refl
-kept-by i j (since g p false) x q u v = tt
+-- ---- the answers
+finite-answers : (kept : Call → Bool) (cs : List Call) (b : Bench) → Good b → every finiteAnswer (answersTo kept cs b) ≡ true
+unfolding answersTo every
+finite-answers kept [] b g = refl
+finite-answers kept (c ∷ cs) b g = let ih = finite-answers kept cs (afterOf c b) (good-after c b g) in by-test (kept c) (λ e. rw (e, finite-answer c b g) ih) (λ e. rw e ih)
 
--- ---- all together
-one-seat : (s : ℕ) (c : Call) → Respects (eqb s) (on s) c
-one-seat s c = respected (eqb s) c (local c) (λ e t f. eq-eqb s t (sym (single c s t e f)))
+-- ---- a seat alone
+one-named : (s : ℕ) (a : Asks) → Closed (eqb s) a
+unfolding any every
+one-named s (of r a) e t f =
+    by-test (ltb r seats)
+    (λ q. eq-eqb s t (eqb-true s r (sym (or-false (eqb s r)) ∙ (rw q at e)) ∙ sym (eqb-true t r (sym (or-false (eqb t r)) ∙ (rw q at f)))))
+    (λ q. absurd (false≢true (rw q at e)))
 
-empty-new : (s : ℕ) → s < seats → strandOf s newBench .count ≡ 0
-unfolding strandOf newBench newRecord
-empty-new s h = getD-replicate seats s 0 0 h
+alone : (s : ℕ) (cs : List Call) → Respected (eqb s) cs
+alone s [] = none
+alone s (c ∷ cs) = more (respects (eqb s) c (one-named s (c .asks))) (alone s cs)
 
 pub isolation : Isolation
 isolation s cs ds m e =
-    let a = alike-lists (eqb s) (on s) (one-seat s) cs newBench newBench (record { left = good-new; right = good-new; strands = λ t k p. refl }) in
+    let a = alike-lists (eqb s) (alone s cs) newBench newBench (record { left = good-new; right = good-new; strands = λ t k p. refl }) in
     record {
-      sameAnswers = a .0 ∙ sym (same-answers ds (solo (on s) cs) e newBench);
-      sameStrand = a .1 .strands s m (eq-eqb s s refl) ∙ ap (strandOf s) (sym (same-after ds (solo (on s) cs) e newBench));
-      pinsHold = λ i j. kept-by i j (told i j nothing (history s cs newBench)) (strandOf s (after cs newBench)) (tracks-list i j s m cs nothing newBench good-new (empty-new s m));
+      sameAnswers = a .0 ∙ sym (same-answers e newBench);
+      sameStrand = a .1 .strands s m (eq-eqb s s refl) ∙ ap (strandOf s) (sym (same-after e newBench));
+      finiteAnswers = finite-answers (keptBy (eqb s)) cs newBench good-new;
+      finite = a .1 .left .fine s m .finite;
+      pinsHold = λ i j. stays-by i j (story i j empty (history s cs newBench)) (strandOf s (after cs newBench)) (tracks-list i j s m cs empty newBench good-new (empty-new s m));
     }

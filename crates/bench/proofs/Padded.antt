@@ -9,7 +9,7 @@ use Rattle.vectors.specs.Number.{plusZero}
 use Rattle.matrix.specs.Parts.{put}
 use Rattle.matrix.proofs.Parts.{put-append}
 use Rattle.bench.specs.Areas.{vectorPart}
-use Rattle.bench.specs.Calls.{padded}
+use Rattle.bench.specs.Requests.{padded}
 
 pub length-padded : (l : List Float) → length l ≤ vectorPart → length (padded l) ≡ vectorPart
 unfolding padded

@@ -15,12 +15,11 @@ use Rattle.matrix.specs.Area.{workNumbers}
 use Rattle.matrix.specs.HairSystem.{vec3At}
 use Rattle.bench.specs.declared.answers.Pick.the-variants.{At}
 use Rattle.bench.specs.declared.seats.Settings.{Settings}
-use Rattle.bench.specs.Strand.{Bench, newBench, strandOf}
-use Rattle.bench.specs.StepNumbers.{stepNumbers}
-use Rattle.bench.specs.Step.{positionsIn}
-use Rattle.bench.specs.Verdicts.{Answer, said, handed, reported}
-use Rattle.bench.specs.Calls.{Call, call, load, pin, stepStatic}
-use Rattle.bench.specs.Isolation.{answers, after}
+use Rattle.bench.specs.Strand.{settingsBy, newBench, strandOf}
+use Rattle.bench.specs.Step.{still, positionsIn}
+use Rattle.bench.specs.Answers.{Answer, said, handed, reported, stepNumbers}
+use Rattle.bench.specs.Asks.{loadOf, load, pin, step, Call, callWith, call}
+use Rattle.bench.specs.Runs.{Run, run}
 
 abbrev pub bits : List Float → List ℕ
 bits l = map (toBits binary64) l
@@ -52,13 +51,13 @@ abbrev pub seat : ℕ
 seat = 5
 
 abbrev pub settings : Settings
-settings = record { «stiff_length» = plusZero; «stiff_bendtwist0» = plusZero; «stiff_bendtwist1» = plusZero; «stiff_bendtwist2» = plusZero; «conv_ratio» = number 0x3F50_0000_0000_0000 }
+settings = settingsBy plusZero plusZero plusZero plusZero (number 0x3F50_0000_0000_0000)
 
 abbrev pub loading : Call
-loading = call seat (load 2 settings (map number (0 ∷ 0 ∷ 0 ∷ one ∷ 0 ∷ 0 ∷ [])) (map number (0 ∷ one ∷ 0 ∷ 0 ∷ one ∷ 0 ∷ [])))
+loading = call seat (load (loadOf 2 settings (map number (0 ∷ 0 ∷ 0 ∷ one ∷ 0 ∷ 0 ∷ [])) (map number (0 ∷ one ∷ 0 ∷ 0 ∷ one ∷ 0 ∷ []))))
 
 abbrev pub pulling : Vec3 → Call
-pulling goal = call seat (stepStatic (At 1 goal) (replicate workNumbers plusZero))
+pulling goal = callWith (replicate workNumbers plusZero) seat (step (At 1 goal) still)
 
 -- Position component c of vertex 1 is pinned.
 abbrev pub pinning : ℕ → Call
@@ -82,11 +81,11 @@ pub record Shown : Type 0 where
   pub told : List (List ℕ)
   pub place : List ℕ
 
-abbrev pub shownBy : List Answer → Bench → Shown
-shownBy l b = record { told = map answerNumbers l; place = bits (vec3Numbers (vec3At (positionsIn 2 (strandOf seat b .drape)) 1)) }
+abbrev pub shownBy : Run → Shown
+shownBy r = record { told = map answerNumbers (r .answers); place = bits (vec3Numbers (vec3At (positionsIn 2 (strandOf seat (r .bench) .drape)) 1)) }
 
 abbrev pub shown : List Call → Shown
-shown cs = shownBy (answers cs newBench) (after cs newBench)
+shown cs = shownBy (run cs newBench)
 
 -- ---- the table
 

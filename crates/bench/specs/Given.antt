@@ -1,9 +1,8 @@
 -- Which counts, settings, numbers and edges are taken: document 01, "When the bench declines".
 use mathlib.Core.Bool.{Bool, not, _&&_, _||_}
-use mathlib.Core.List.{List}
+use mathlib.Core.List.{List, [], _∷_}
 use Prim.Native.Nat.{ℕ, _+_, _-_}
 use lib.Dec.{eqb, leb}
-use lib.ListN.{getD}
 use lib.Ieee.{Float, lt}
 use Rattle.vectors.specs.Number.{plusZero}
 use Rattle.vectors.specs.Finite.{isFinite}
@@ -15,7 +14,8 @@ use Rattle.matrix.specs.HairSystem.{vec3At}
 use Rattle.bench.specs.declared.seats.Settings.{Settings}
 use Rattle.bench.specs.declared.seats.Record.{Record}
 use Rattle.bench.specs.Areas.{seats}
-use Rattle.bench.specs.Strand.{noSettings}
+use Rattle.bench.specs.Rows.{all}
+use Rattle.bench.specs.Strand.{settingNumbers, Entry, entryOf}
 
 -- "n outside 2 to 32" is declined
 abbrev pub goodCount : ℕ → Bool
@@ -26,14 +26,18 @@ abbrev pub notNegative : Float → Bool
 notNegative x = isFinite x && not (lt x plusZero)
 
 unfoldable pub goodSettings : Settings → Bool
-goodSettings g = notNegative (g .«stiff_length») && notNegative (g .«stiff_bendtwist0») && notNegative (g .«stiff_bendtwist1») && notNegative (g .«stiff_bendtwist2») && notNegative (g .«conv_ratio»)
+goodSettings g = every notNegative (settingNumbers g)
+
+-- Whether a seat of count n is empty.
+abbrev pub isEmpty : ℕ → Bool
+isEmpty n = eqb n 0
 
 -- "a count that is neither 0 nor 2 to 32, or at a taken seat a setting that load declines" is declined
-unfoldable pub goodSeat : ℕ → Settings → Bool
-goodSeat n g = eqb n 0 || (goodCount n && goodSettings g)
+unfoldable pub goodSeat : Entry → Bool
+goodSeat e = isEmpty (e .count) || all (goodCount (e .count) ∷ goodSettings (e .settings) ∷ [])
 
 unfoldable pub goodRecord : Record → Bool
-goodRecord r = every (λ (s : ℕ). goodSeat (getD (r .counts) s 0) (getD (r .settings) s noSettings)) (table seats (λ s. s))
+goodRecord r = every (λ (s : ℕ). goodSeat (entryOf s r)) (table seats (λ s. s))
 
 -- "some edge's computed squared length not finite or not above 0" is declined: no edge between n vertices is so
 unfoldable pub edgesFit : ℕ → List Vec3 → Bool

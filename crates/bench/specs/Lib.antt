@@ -1,17 +1,20 @@
--- What the crate's contracts cite, its theorem, and samples.
+-- What the crate's contracts cite, its theorems, and samples.
 pub mod Areas
+pub mod Rows
 pub mod Strand
 pub mod Given
-pub mod Verdicts
-pub mod Calls
-pub mod StepNumbers
 pub mod Update
 pub mod Step
+pub mod Answers
+pub mod Asks
+pub mod Requests
+pub mod Calls
+pub mod Runs
+pub mod PinStory
 pub mod Isolation
 pub mod Accepted
-pub mod Table
-pub mod Asked
 pub mod Opened
 pub mod SamplesStep
 pub mod SamplesTwoSteps
 pub mod Examples
+pub mod Theorems

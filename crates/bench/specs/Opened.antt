@@ -2,15 +2,17 @@
 use Prim.Native.Nat.{ℕ}
 use Rattle.matrix.specs.Opened.{opened as openedMatrix}
 use Rattle.matrix.specs.Rows.{numbers3, flat3}
-use Rattle.bench.specs.Strand.{newRecord, newBench, strandOf, putStrand}
+use Rattle.bench.specs.Rows.{any, first}
+use Rattle.bench.specs.Strand.{newRecord, newBench, strandOf, putStrand, putAll}
 use Rattle.bench.specs.Given.{goodSettings, goodSeat, goodRecord, edgesFit}
-use Rattle.bench.specs.Verdicts.{decline}
-use Rattle.bench.specs.Calls.{padded, loadedStrand, emptyStrand, pinnedStrand, shownOf, goalFits, onStrand, lentLong, verdict, numberOf, answerOf, afterOf}
-use Rattle.bench.specs.StepNumbers.{stepNumbers}
+use Rattle.bench.specs.Answers.{stepNumbers}
 use Rattle.bench.specs.Update.{unlessPinned, vec3UnlessPinned, orthonormalizeFramexForHair, turnAt, isTurned, turnedFrames, movedAt, updateSolutionHair, turnsFit}
-use Rattle.bench.specs.Step.{withPicked, energyOf, pickedSystem, begun, solved, outcomeIsFinite, drapeIsFinite, finished, stepped, staticDrape, updateStatic, predicted, predictedCopy, predictedShape, velocityAfter, velocitiesAfter, positionsAfter, dynamicDrape, updateDynamic, pickFits}
-use Rattle.bench.specs.Isolation.{answers, after}
+use Rattle.bench.specs.Step.{pickFits, goalFits, timeFits, predicted, predictedCopy, predictedShape, shapeBy, withPicked, energyOf, pickedSystem, timed, begunWith, beginRows, solved, staticDrape, velocityAfter, velocitiesAfter, positionsAfter, dynamicDrape, drapeAfter, outcomeIsFinite, drapeIsFinite, finishRows, updateOf}
+use Rattle.bench.specs.Asks.{lentOf}
+use Rattle.bench.specs.Requests.{padded, loadedOn, emptied, pinnedOn, shownOf, caseAt}
+use Rattle.bench.specs.Calls.{lentLong, seatRows, caseOf, doneOf}
+use Rattle.bench.specs.Runs.{run}
 
 unfoldable pub opened : ℕ
-unfolding numbers3 flat3 newRecord newBench strandOf putStrand goodSettings goodSeat goodRecord edgesFit decline padded loadedStrand emptyStrand pinnedStrand shownOf goalFits onStrand lentLong verdict numberOf answerOf afterOf stepNumbers unlessPinned vec3UnlessPinned orthonormalizeFramexForHair turnAt isTurned turnedFrames movedAt updateSolutionHair turnsFit withPicked energyOf pickedSystem begun solved outcomeIsFinite drapeIsFinite finished stepped staticDrape updateStatic predicted predictedCopy predictedShape velocityAfter velocitiesAfter positionsAfter dynamicDrape updateDynamic pickFits answers after openedMatrix
+unfolding numbers3 flat3 any first newRecord newBench strandOf putStrand putAll goodSettings goodSeat goodRecord edgesFit stepNumbers unlessPinned vec3UnlessPinned orthonormalizeFramexForHair turnAt isTurned turnedFrames movedAt updateSolutionHair turnsFit pickFits goalFits timeFits predicted predictedCopy predictedShape shapeBy withPicked energyOf pickedSystem timed begunWith beginRows solved staticDrape velocityAfter velocitiesAfter positionsAfter dynamicDrape drapeAfter outcomeIsFinite drapeIsFinite finishRows updateOf lentOf padded loadedOn emptied pinnedOn shownOf caseAt lentLong seatRows caseOf doneOf run openedMatrix
 opened = 0

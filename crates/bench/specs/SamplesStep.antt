@@ -1,19 +1,18 @@
 -- Samples of a whole step of each kind: a strand of three vertices with one position component and one twist pinned, and a pick.
 -- The bits come from the unchanged Rust, compiled over document 01's stand-ins for what it imports (tests/oracle, program `rows`); what stands past the last vertex is made up, and a step neither reads nor changes it.
-use mathlib.Core.Bool.{Bool, false, _&&_}
+use mathlib.Core.Bool.{Bool, _&&_}
 use mathlib.Core.List.{List, [], _∷_, _++_, map}
 use Prim.Native.Nat.{ℕ, _+_}
-use lib.Dec.{eqb}
+use lib.Dec.{T, eqb}
 use Rattle.vectors.specs.Samples.{haveBits}
 use Rattle.elements.specs.Written.{number, v3}
 use Rattle.matrix.specs.Parts.{table}
 use Rattle.bench.specs.declared.answers.Pick.{Pick}
 use Rattle.bench.specs.declared.answers.Pick.the-variants.{At}
-use Rattle.bench.specs.declared.answers.StepAnswer.the-variants.{Accepted, Refused}
 use Rattle.bench.specs.declared.seats.Settings.{Settings}
-use Rattle.bench.specs.Strand.{Strand, strand}
-use Rattle.bench.specs.Verdicts.{said, handed, reported, Verdict, declined, done}
-use Rattle.bench.specs.Step.{updateStatic, updateDynamic}
+use Rattle.bench.specs.Strand.{Strand, strand, settingsBy}
+use Rattle.bench.specs.Rows.{first}
+use Rattle.bench.specs.Step.{still, over, Update, updateOf}
 
 -- The bits of 32 vectors, given those of three: an infinity follows, then as many different numbers as are left, from `from` on.
 unfoldable pub vectors : ℕ → List ℕ → List ℕ
@@ -30,8 +29,12 @@ drapeBits xyz framex velo copy = vectors 0x3FF0_0000_0000_0000 xyz ++ vectors 0x
 unfoldable pub stepPins : List ℕ
 stepPins = (0 ∷ 7 ∷ 0 ∷ 0 ∷ 0 ∷ 0 ∷ 0 ∷ 255 ∷ 0 ∷ 0 ∷ 0 ∷ 0 ∷ []) ++ table 116 (λ k. k + 1)
 
+-- With this ratio.
+unfoldable pub sampleSettings : ℕ → Settings
+sampleSettings ratio = settingsBy (number 0x3FE6_6666_6666_6666) (number 0x3FF4_CCCC_CCCC_CCCD) (number 0x3FEC_CCCC_CCCC_CCCD) (number 0x3FF1_9999_9999_999A) (number ratio)
+
 unfoldable pub stepSettings : Settings
-stepSettings = record { «stiff_length» = number 0x3FE6_6666_6666_6666; «stiff_bendtwist0» = number 0x3FF4_CCCC_CCCC_CCCD; «stiff_bendtwist1» = number 0x3FEC_CCCC_CCCC_CCCD; «stiff_bendtwist2» = number 0x3FF1_9999_9999_999A; «conv_ratio» = number 0x3F9E_B851_EB85_1EB8 }
+stepSettings = sampleSettings 0x3F9E_B851_EB85_1EB8
 
 unfoldable pub velocitiesBefore : List ℕ
 velocitiesBefore = 0x3FCA_E147_AE14_7AE1 ∷ 0xBFD5_C28F_5C28_F5C3 ∷ 0x3FC5_C28F_5C28_F5C3 ∷ 0xBFDB_851E_B851_EB85 ∷ 0x3FD2_8F5C_28F5_C28F ∷ 0x3FD8_51EB_851E_B852 ∷ 0x3FE0_A3D7_0A3D_70A4 ∷ 0xBFC8_51EB_851E_B852 ∷ 0xBFD1_47AE_147A_E148 ∷ []
@@ -60,12 +63,8 @@ unfoldable pub stepPick : Pick
 stepPick = At 1 (v3 0x3FF1_70A3_D70A_3D71 0x3FD3_D70A_3D70_A3D7 0x3FE2_8F5C_28F5_C28F)
 
 -- Whether a step is accepted with this energy, ratio and count, and leaves this drape.
-unfoldable pub leaves : Verdict → ℕ → ℕ → ℕ → List ℕ → Bool
-leaves (declined k) energy ratio count drape = false
-leaves (done (said k) u) energy ratio count drape = false
-leaves (done (handed l) u) energy ratio count drape = false
-leaves (done (reported (Refused k)) u) energy ratio count drape = false
-leaves (done (reported (Accepted e x k)) u) energy ratio count drape = eqb k count && haveBits (e ∷ x ∷ u .drape) (energy ∷ ratio ∷ drape)
+unfoldable pub leaves : Update → ℕ → ℕ → ℕ → List ℕ → Bool
+leaves u energy ratio count drape = eqb (first (u .rows)) 0 && eqb (u .count) count && haveBits (u .energy ∷ u .ratio ∷ u .drape) (energy ∷ ratio ∷ drape)
 
 -- ---- a static step, after which velocities and working copy are as they were
 
@@ -77,9 +76,6 @@ staticAfter =
     velocitiesBefore
     copyBefore
 
-unfoldable pub staticSample : Bool
-staticSample = leaves (updateStatic stepStrand stepPick) 0x3FB3_EA2D_4272_13B1 0x3F85_EAEC_08AF_D690 5 staticAfter
-
 -- ---- a dynamic step, with dt = 0.37
 
 unfoldable pub dynamicAfter : List ℕ
@@ -90,5 +86,6 @@ dynamicAfter =
     (0x3FC2_974E_24F6_5340 ∷ 0xBFD5_C28F_5C28_F5C3 ∷ 0x3FC1_43C0_9F2F_EFA9 ∷ 0xBFB5_652F_35CC_2A13 ∷ 0x3FC0_8ACB_7BEC_9E7C ∷ 0xBFB8_8BA2_686E_0C9B ∷ 0x3FDE_8899_00DA_5AF1 ∷ 0xBFC3_4A47_EBFB_45D9 ∷ 0xBFD4_6A7B_43BC_2106 ∷ [])
     (0x3FCA_1424_97EA_8015 ∷ 0xBFD1_EB85_1EB8_51EC ∷ 0x3FDE_12EF_27B0_8C56 ∷ 0x3FF0_C905_25F4_B7FD ∷ 0x3FD4_571D_F6ED_0DF6 ∷ 0x3FE5_95B3_B04A_452D ∷ 0x3FF9_1079_AC3D_2869 ∷ 0x3FF4_6348_D567_E60D ∷ 0x3FDA_5DB8_CAC7_3139 ∷ [])
 
-unfoldable pub dynamicSample : Bool
-dynamicSample = leaves (updateDynamic stepStrand stepPick (number 0x3FD7_AE14_7AE1_47AE)) 0x3FC1_78CE_242A_9F0A 0x3F75_E4B4_89AB_16FA 4 dynamicAfter
+pub record StepSamples : Type 0 where
+  pub static : T (leaves (updateOf stepStrand stepPick still) 0x3FB3_EA2D_4272_13B1 0x3F85_EAEC_08AF_D690 5 staticAfter)
+  pub dynamic : T (leaves (updateOf stepStrand stepPick (over (number 0x3FD7_AE14_7AE1_47AE))) 0x3FC1_78CE_242A_9F0A 0x3F75_E4B4_89AB_16FA 4 dynamicAfter)

@@ -3,38 +3,28 @@
 use mathlib.Core.Bool.{Bool, _&&_}
 use mathlib.Core.List.{List, [], _∷_, _++_, map}
 use Prim.Native.Nat.{ℕ, _+_}
+use lib.Dec.{T}
 use lib.ListN.{replicate}
 use lib.Ieee.{Float}
 use Rattle.elements.specs.Written.{number, v3}
 use Rattle.matrix.specs.Parts.{table}
 use Rattle.bench.specs.declared.answers.Pick.the-variants.{Nothing, At}
-use Rattle.bench.specs.declared.seats.Settings.{Settings}
-use Rattle.bench.specs.Strand.{Strand, strand}
-use Rattle.bench.specs.Verdicts.{Verdict, declined, done}
-use Rattle.bench.specs.Step.{updateStatic, updateDynamic}
-use Rattle.bench.specs.SamplesStep.{drapeBits, stepSettings, velocitiesBefore, copyBefore, stepRest, drapeBefore, leaves}
+use Rattle.bench.specs.Strand.{Strand, strand, withDrape}
+use Rattle.bench.specs.Step.{still, over, Update, updateOf}
+use Rattle.bench.specs.SamplesStep.{drapeBits, sampleSettings, velocitiesBefore, copyBefore, stepRest, drapeBefore, leaves}
 
 -- The strand of SamplesStep with this ratio, this drape, and these pins of its vertices; every byte past the last vertex is a pin.
 unfoldable pub strandWith : ℕ → List ℕ → List ℕ → Strand
-strandWith ratio pins drape =
-    let g : Settings = record { «stiff_length» = stepSettings .«stiff_length»; «stiff_bendtwist0» = stepSettings .«stiff_bendtwist0»; «stiff_bendtwist1» = stepSettings .«stiff_bendtwist1»; «stiff_bendtwist2» = stepSettings .«stiff_bendtwist2»; «conv_ratio» = number ratio } in
-    strand 3 g (map number stepRest) (map number drape) (pins ++ table 116 (λ k. k + 1))
-
--- A step of the strand that one before it leaves.
-unfoldable pub next : (Strand → Verdict) → Verdict → Verdict
-next step (declined k) = declined k
-next step (done a t) = step t
+strandWith ratio pins drape = strand 3 (sampleSettings ratio) (map number stepRest) (map number drape) (pins ++ table 116 (λ k. k + 1))
 
 -- ---- two static steps of a free strand
 
 unfoldable pub freeStrand : List ℕ → Strand
 freeStrand = strandWith 0x3F94_7AE1_47AE_147B (replicate 12 0)
 
-unfoldable pub freeFirst : Verdict
-freeFirst = updateStatic (freeStrand drapeBefore) Nothing
-
-unfoldable pub freeSecond : Strand → Verdict
-freeSecond t = updateStatic t (At 2 (v3 0x3FF4_F5C2_8F5C_28F6 0x3FF6_147A_E147_AE14 0x3FDE_147A_E147_AE14))
+-- The second step, of the strand that the first leaves.
+unfoldable pub freeSecond : Update → Update
+freeSecond u = updateOf (withDrape (freeStrand drapeBefore) (u .drape)) (At 2 (v3 0x3FF4_F5C2_8F5C_28F6 0x3FF6_147A_E147_AE14 0x3FDE_147A_E147_AE14)) still
 
 unfoldable pub freeBetween : List ℕ
 freeBetween =
@@ -53,11 +43,8 @@ freeAfter =
     copyBefore
 
 -- Whether a first step leaves these, and then the second, of the strand that the first leaves.
-unfoldable pub freeAgrees : Verdict → Bool
-freeAgrees first = leaves first 0x3FB3_EA2D_4272_13B1 0x3F8B_6D11_858D_F8AF 3 freeBetween && leaves (next freeSecond first) 0x3F6C_1BB9_CCA1_0D17 0x3F62_5730_0417_6E9C 4 freeAfter
-
-unfoldable pub freeSample : Bool
-freeSample = freeAgrees freeFirst
+unfoldable pub freeAgrees : Update → Bool
+freeAgrees first = leaves first 0x3FB3_EA2D_4272_13B1 0x3F8B_6D11_858D_F8AF 3 freeBetween && leaves (freeSecond first) 0x3F6C_1BB9_CCA1_0D17 0x3F62_5730_0417_6E9C 4 freeAfter
 
 -- ---- two dynamic steps, with dt = 0.29: vertex 0 is pinned in its twist, vertex 1 in x and vertex 2 in z
 
@@ -67,11 +54,8 @@ heldStrand = strandWith 0x3FA9_9999_9999_999A (0 ∷ 0 ∷ 0 ∷ 3 ∷ 128 ∷ 0
 unfoldable pub heldTime : Float
 heldTime = number 0x3FD2_8F5C_28F5_C28F
 
-unfoldable pub heldFirst : Verdict
-heldFirst = updateDynamic (heldStrand drapeBefore) Nothing heldTime
-
-unfoldable pub heldSecond : Strand → Verdict
-heldSecond t = updateDynamic t (At 0 (v3 0x3FCD_70A3_D70A_3D71 0xBFD7_0A3D_70A3_D70A 0x3FDF_5C28_F5C2_8F5C)) heldTime
+unfoldable pub heldSecond : Update → Update
+heldSecond u = updateOf (withDrape (heldStrand drapeBefore) (u .drape)) (At 0 (v3 0x3FCD_70A3_D70A_3D71 0xBFD7_0A3D_70A3_D70A 0x3FDF_5C28_F5C2_8F5C)) (over heldTime)
 
 unfoldable pub heldBetween : List ℕ
 heldBetween =
@@ -90,8 +74,9 @@ heldAfter =
     (0x3FCE_F5BF_7104_DCA9 ∷ 0xBFD9_FA65_C84F_919F ∷ 0x3FDF_E60C_39B1_38BE ∷ 0x3FF0_28F5_C28F_5C29 ∷ 0x3FD7_9423_3743_5DCD ∷ 0x3FEE_A52E_4C18_7532 ∷ 0x3FFA_71B3_EF6B_CA4B ∷ 0x3FF4_0733_7A87_7321 ∷ 0x3FE2_3D70_A3D7_0A3D ∷ [])
 
 -- Whether a first step leaves these, and then the second, of the strand that the first leaves.
-unfoldable pub heldAgrees : Verdict → Bool
-heldAgrees first = leaves first 0x3FC1_A846_26C2_A64D 0x3F8E_874B_B2DD_7654 3 heldBetween && leaves (next heldSecond first) 0x3FB9_FCC1_822C_E662 0x3F85_17D6_6A9A_7ECE 4 heldAfter
+unfoldable pub heldAgrees : Update → Bool
+heldAgrees first = leaves first 0x3FC1_A846_26C2_A64D 0x3F8E_874B_B2DD_7654 3 heldBetween && leaves (heldSecond first) 0x3FB9_FCC1_822C_E662 0x3F85_17D6_6A9A_7ECE 4 heldAfter
 
-unfoldable pub heldSample : Bool
-heldSample = heldAgrees heldFirst
+pub record TwoStepSamples : Type 0 where
+  pub static : T (freeAgrees (updateOf (freeStrand drapeBefore) Nothing still))
+  pub dynamic : T (heldAgrees (updateOf (heldStrand drapeBefore) Nothing (over heldTime)))

@@ -1,14 +1,14 @@
 -- The step of one strand: rod3_darboux.rs, `update_static`, lines 1113 to 1172, and `update_dynamic`, lines 1174 to 1264, with the refusals 7 to 11 of document 01.
 use mathlib.Core.Path.{_≡_}
-use mathlib.Core.Bool.{Bool, true, not, _&&_}
-use mathlib.Core.List.{List}
-use Prim.Native.Nat.{ℕ, _+_, _*_}
+use mathlib.Core.Bool.{Bool, true, _&&_}
+use mathlib.Core.List.{List, [], _∷_, _++_}
+use Prim.Native.Nat.{ℕ, zero, suc, _+_, _*_}
 use lib.Dec.{ltb}
 use lib.ListN.{getD}
-use lib.Ieee.{Float}
-use Rattle.vectors.specs.Number.{_⊕_, _⊖_, _⊗_, _⊘_}
+use lib.Ieee.{Float, lt}
+use Rattle.vectors.specs.Number.{plusZero, _⊕_, _⊖_, _⊗_, _⊘_}
 use Rattle.vectors.specs.Vec3.{vec3}
-use Rattle.vectors.specs.Finite.{isFinite, vec4IsFinite}
+use Rattle.vectors.specs.Finite.{isFinite, vec3IsFinite, vec4IsFinite}
 use Rattle.vectors.specs.declared.vec3.Vec3.{Vec3}
 use Rattle.matrix.specs.Parts.{part, put, table}
 use Rattle.matrix.specs.Rows.{rows3, flat3}
@@ -19,13 +19,35 @@ use Rattle.matrix.specs.Fixed.{withPins}
 use Rattle.matrix.specs.ConjugateGradient.{Outcome, conjugateGradient}
 use Rattle.bench.specs.declared.answers.Pick.{Pick}
 use Rattle.bench.specs.declared.answers.Pick.the-variants.{Nothing, At}
+use Rattle.bench.specs.declared.answers.StepAnswer.{StepAnswer}
 use Rattle.bench.specs.declared.answers.StepAnswer.the-variants.{Accepted, Refused}
 use Rattle.bench.specs.declared.seats.Settings.{Settings}
 use Rattle.bench.specs.Areas.{placePositions, placeFrames, placeVelocities, placeWorkingCopy}
-use Rattle.bench.specs.Strand.{Strand, strand}
+use Rattle.bench.specs.Strand.{Strand}
 use Rattle.bench.specs.Given.{edgesFit}
-use Rattle.bench.specs.Verdicts.{Answer, reported, Verdict, declined, done, decline, declineBy}
+use Rattle.bench.specs.Rows.{Row, unless, first}
 use Rattle.bench.specs.Update.{unlessPinned, vec3UnlessPinned, orthonormalizeFramexForHair, updateSolutionHair, turnsFit}
+
+-- A step's kind: static, or dynamic over the time dt.
+pub data Time : Type 0 where
+  still : Time
+  over : (dt : Float) → Time
+
+-- ---- what a step is given
+
+-- No pick, or one of the n vertices: what refusal 5 asks.
+unfoldable pub pickFits : ℕ → Pick → Bool
+pickFits n Nothing = true
+pickFits n (At v goal) = ltb v n
+
+-- "a given number not finite" and "dt not above 0" are declined with 6
+unfoldable pub goalFits : Pick → Bool
+goalFits Nothing = true
+goalFits (At v goal) = vec3IsFinite goal
+
+unfoldable pub timeFits : Time → Bool
+timeFits still = true
+timeFits (over dt) = isFinite dt && lt plusZero dt
 
 -- ---- what the drape holds of n vertices
 
@@ -45,6 +67,28 @@ workingCopyIn n d = rows3 d placeWorkingCopy n
 abbrev pub shapeIn : ℕ → List Float → Shape
 shapeIn n l = shape (positionsIn n l) (framesIn n l)
 
+-- ---- the shape that the system is assembled of
+
+-- "Unpinned working copy = drape + dt·velocity; pinned entries keep the working copy they had": lines 1178 to 1186
+unfoldable pub predicted : Float → ℕ → Float → Float → Float → Float
+predicted dt pin position velocity copy = unlessPinned pin copy (position ⊕ (dt ⊗ velocity))
+
+abbrev pub predictedVec3 : Float → List ℕ → ℕ → Vec3 → Vec3 → Vec3 → Vec3
+predictedVec3 dt pins o p v c =
+    vec3 (predicted dt (getD pins o 0) (p .x) (v .x) (c .x)) (predicted dt (getD pins (o + 1) 0) (p .y) (v .y) (c .y)) (predicted dt (getD pins (o + 2) 0) (p .z) (v .z) (c .z))
+
+unfoldable pub predictedCopy : Float → ℕ → List ℕ → List Float → List Vec3
+predictedCopy dt n pins d = table n (λ i. predictedVec3 dt pins (4 * i) (vec3At (positionsIn n d) i) (vec3At (velocitiesIn n d) i) (vec3At (workingCopyIn n d) i))
+
+-- line 1187: the frames are orthonormalised along it
+unfoldable pub predictedShape : Float → ℕ → List ℕ → List Float → Shape
+predictedShape dt n pins d = let xyz = predictedCopy dt n pins d in shape xyz (orthonormalizeFramexForHair n xyz (framesIn n d))
+
+-- A static step takes the drape's shape, a dynamic one the predicted.
+unfoldable pub shapeBy : Time → ℕ → List ℕ → List Float → Shape
+shapeBy still n pins d = shapeIn n d
+shapeBy (over dt) n pins d = predictedShape dt n pins d
+
 -- ---- begin: the system, up to 8
 
 -- lines 1129 to 1146: the picked vertex is pulled to its goal; xyz are the positions that the system was assembled of
@@ -62,67 +106,42 @@ energyOf n g rest now = hairEnergy n (shapeIn n rest) now (g .«stiff_length») 
 unfoldable pub pickedSystem : ℕ → Settings → List Float → Shape → Pick → System
 pickedSystem n g rest now pick = withPicked n (now .positions) pick (hairSystem n (shapeIn n rest) now (g .«stiff_length») (bendtwist g))
 
+-- "Dynamic adds 1/(dt·dt)"
+unfoldable pub timed : Time → ℕ → System → System
+timed still n s = s
+timed (over dt) n s = withInertia n dt s
+
+-- What a step begins with: the shape now, its energy, and the system with pick and inertia.
+pub record Begun : Type 0 where
+  pub now : Shape
+  pub energy : Float
+  pub system : System
+
+unfoldable pub begunWith : Time → ℕ → Settings → List Float → Pick → Shape → Begun
+begunWith time n g rest pick now =
+    let e : Float = energyOf n g rest now in
+    let s : System = timed time n (pickedSystem n g rest now pick) in
+    record { now = now; energy = e; system = s }
+
 -- "some edge's computed squared length not finite or not above 0"; "energy, a gradient or block number not finite after pick and inertia, before pins"
-unfoldable pub begun : ℕ → Shape → Float → System → Verdict → Verdict
-begun n now energy s next = decline 7 (not (edgesFit n (now .positions))) (decline 8 (not (systemIsFinite energy s)) next)
+unfoldable pub beginRows : ℕ → Begun → List Row
+beginRows n b = unless 7 (edgesFit n (b .now .positions) ∷ []) ∷ unless 8 (systemIsFinite (b .energy) (b .system) ∷ []) ∷ []
 
 -- ---- the solve
 
--- lines 1147 to 1163: pins act, then "at most 1,000 iterations"
+-- "at most 1,000 iterations"
+abbrev pub mostIterations : ℕ
+mostIterations = 1000
+
+-- lines 1147 to 1163: pins act, then the system is solved
 unfoldable pub solved : ℕ → List ℕ → Float → System → Outcome
-solved n pins tolerance s = let p = withPins n pins s in conjugateGradient n (p .rows) tolerance 1000 (p .gradient)
+solved n pins tolerance s = let p = withPins n pins s in conjugateGradient n (p .rows) tolerance mostIterations (p .gradient)
 
--- ---- finish: 9 to 11, and what the step leaves
+-- ---- what a step would leave on the drape, from the shape after it
 
--- "a solution number or the last ratio not finite" is declined with 9
-unfoldable pub outcomeIsFinite : Outcome → Bool
-outcomeIsFinite o = isFinite (o .ratio) && every vec4IsFinite (o .solution)
-
--- "a drape position, frame number or velocity of the n vertices .. not finite" is declined with 11
-unfoldable pub drapeIsFinite : ℕ → List Float → Bool
-drapeIsFinite n d = every isFinite (part d placePositions (3 * n)) && every isFinite (part d placeFrames (3 * n)) && every isFinite (part d placeVelocities (3 * n))
-
-abbrev pub withDrape : Strand → List Float → Strand
-withDrape t d = strand (t .count) (t .settings) (t .rest) d (t .pins)
-
--- leave says the drape that the step would leave, from the shape after it; 10 is tested before 11
-unfoldable pub finished : Strand → Shape → (Shape → List Float) → Float → Outcome → Verdict
-finished t now leave energy o =
-    let d = leave (updateSolutionHair (t .count) (t .pins) now (o .solution)) in
-    decline 9 (not (outcomeIsFinite o))
-    (decline 10 (not (turnsFit (t .count) (t .pins) now (o .solution)))
-    (decline 11 (not (drapeIsFinite (t .count) d)) (done (reported (Accepted energy (o .ratio) (o .count))) (withDrape t d))))
-
--- ---- both kinds
-
--- now is the shape that the system is assembled of, load what a dynamic step adds to it
-unfoldable pub stepped : Strand → Shape → Pick → (System → System) → (Shape → List Float) → Verdict
-stepped t now pick load leave =
-    let energy = energyOf (t .count) (t .settings) (t .rest) now in
-    let s = load (pickedSystem (t .count) (t .settings) (t .rest) now pick) in
-    begun (t .count) now energy s (finished t now leave energy (solved (t .count) (t .pins) (t .settings .«conv_ratio») s))
-
--- A static step: the drape's shape moves. "A static step changes neither velocities nor working copy."
+-- "A static step changes neither velocities nor working copy."
 unfoldable pub staticDrape : List Float → Shape → List Float
 staticDrape d s = put (put d placePositions (flat3 (s .positions))) placeFrames (flat3 (s .frames))
-
-unfoldable pub updateStatic : Strand → Pick → Verdict
-updateStatic t pick = stepped t (shapeIn (t .count) (t .drape)) pick (λ (s : System). s) (staticDrape (t .drape))
-
--- "Unpinned working copy = drape + dt·velocity; pinned entries keep the working copy they had": lines 1178 to 1186
-unfoldable pub predicted : Float → ℕ → Float → Float → Float → Float
-predicted dt pin position velocity copy = unlessPinned pin copy (position ⊕ (dt ⊗ velocity))
-
-abbrev pub predictedVec3 : Float → List ℕ → ℕ → Vec3 → Vec3 → Vec3 → Vec3
-predictedVec3 dt pins o p v c =
-    vec3 (predicted dt (getD pins o 0) (p .x) (v .x) (c .x)) (predicted dt (getD pins (o + 1) 0) (p .y) (v .y) (c .y)) (predicted dt (getD pins (o + 2) 0) (p .z) (v .z) (c .z))
-
-unfoldable pub predictedCopy : Float → ℕ → List ℕ → List Float → List Vec3
-predictedCopy dt n pins d = table n (λ i. predictedVec3 dt pins (4 * i) (vec3At (positionsIn n d) i) (vec3At (velocitiesIn n d) i) (vec3At (workingCopyIn n d) i))
-
--- line 1187: the frames are orthonormalised along it
-unfoldable pub predictedShape : Float → ℕ → List ℕ → List Float → Shape
-predictedShape dt n pins d = let xyz = predictedCopy dt n pins d in shape xyz (orthonormalizeFramexForHair n xyz (framesIn n d))
 
 -- "Unpinned velocity = (working copy - drape)/dt"; a pinned one is kept: lines 1252 to 1262
 unfoldable pub velocityAfter : Float → ℕ → Float → Float → Float → Float
@@ -139,7 +158,7 @@ velocitiesAfter dt n pins d copy = table n (λ i. velocityVec3 dt pins (4 * i) (
 unfoldable pub positionsAfter : ℕ → List ℕ → List Float → List Vec3 → List Vec3
 positionsAfter n pins d copy = table n (λ i. vec3UnlessPinned pins (4 * i) (vec3At (positionsIn n d) i) (vec3At copy i))
 
--- The drape after a dynamic step; the positions of s are the working copy.
+-- After a dynamic step; the positions of s are the working copy.
 unfoldable pub dynamicDrape : Float → ℕ → List ℕ → List Float → Shape → List Float
 dynamicDrape dt n pins d s =
     let x = put d placePositions (flat3 (positionsAfter n pins d (s .positions))) in
@@ -147,31 +166,64 @@ dynamicDrape dt n pins d s =
     let v = put f placeVelocities (flat3 (velocitiesAfter dt n pins d (s .positions))) in
     put v placeWorkingCopy (flat3 (s .positions))
 
--- "Dynamic adds 1/(dt·dt)"
-unfoldable pub updateDynamic : Strand → Pick → Float → Verdict
-updateDynamic t pick dt = stepped t (predictedShape dt (t .count) (t .pins) (t .drape)) pick (withInertia (t .count) dt) (dynamicDrape dt (t .count) (t .pins) (t .drape))
+-- The drape after a step of either kind.
+unfoldable pub drapeAfter : Time → ℕ → List ℕ → List Float → Shape → List Float
+drapeAfter still n pins d s = staticDrape d s
+drapeAfter (over dt) n pins d s = dynamicDrape dt n pins d s
 
--- ---- what a step's verdict says
+-- ---- finish: 9 to 11
 
-abbrev pub reportBy : Verdict → Answer
-reportBy (declined k) = reported (Refused k)
-reportBy (done a t) = a
+-- "a solution number or the last ratio not finite" is declined with 9
+unfoldable pub outcomeIsFinite : Outcome → Bool
+outcomeIsFinite o = isFinite (o .ratio) && every vec4IsFinite (o .solution)
 
--- The drape after it, where it was d.
-abbrev pub drapeBy : List Float → Verdict → List Float
-drapeBy d (declined k) = d
-drapeBy d (done a t) = t .drape
+-- "a drape position, frame number or velocity of the n vertices .. not finite" is declined with 11
+unfoldable pub drapeIsFinite : ℕ → List Float → Bool
+drapeIsFinite n d = every isFinite (part d placePositions (3 * n)) && every isFinite (part d placeFrames (3 * n)) && every isFinite (part d placeVelocities (3 * n))
 
--- No pick, or one of the n vertices: what refusal 5 asks.
-unfoldable pub pickFits : ℕ → Pick → Bool
-pickFits n Nothing = true
-pickFits n (At v goal) = ltb v n
+-- now is the shape that the solve o was of, d the drape that the step would leave; "some turned edge has 1+c < 2^-20" is 10
+unfoldable pub finishRows : ℕ → List ℕ → Shape → Outcome → List Float → List Row
+finishRows n pins now o d = unless 9 (outcomeIsFinite o ∷ []) ∷ unless 10 (turnsFit n pins now (o .solution) ∷ []) ∷ unless 11 (drapeIsFinite n d ∷ []) ∷ []
 
--- ---- a step between its parts
+-- ---- the whole step
 
--- A step has begun: with the number k it is declined or goes on, with its energy; the system and the shape now stand in the work area w.
-pub record Begins (n : ℕ) (now : Shape) (energy : Float) (s : System) (k : ℕ) (e : Float) (w : List Float) : Type 0 where
-  pub verdict : (next : Verdict) → begun n now energy s next ≡ declineBy k next
-  pub energyIs : k ≡ 0 → e ≡ energy
-  pub systemIs : k ≡ 0 → systemAt n w ≡ s
-  pub shapeIs : stagedShape n w ≡ now
+-- What a step of one strand comes to: the rows that may refuse it; else energy, ratio and count, and the drape that it leaves. Nothing else of the strand changes.
+pub record Update : Type 0 where
+  pub rows : List Row
+  pub energy : Float
+  pub ratio : Float
+  pub count : ℕ
+  pub drape : List Float
+
+unfoldable pub updateOf : Strand → Pick → Time → Update
+updateOf t pick time =
+    let n : ℕ = t .count in
+    let b : Begun = begunWith time n (t .settings) (t .rest) pick (shapeBy time n (t .pins) (t .drape)) in
+    let o : Outcome = solved n (t .pins) (t .settings .«conv_ratio») (b .system) in
+    let d : List Float = drapeAfter time n (t .pins) (t .drape) (updateSolutionHair n (t .pins) (b .now) (o .solution)) in
+    record { rows = beginRows n b ++ finishRows n (t .pins) (b .now) o d; energy = b .energy; ratio = o .ratio; count = o .count; drape = d }
+
+-- ---- a step and its parts, by the number k that it is refused with
+
+-- What it answers: energy, ratio and count where it is accepted.
+abbrev pub reportBy : ℕ → Float → Float → ℕ → StepAnswer
+reportBy zero energy ratio count = Accepted energy ratio count
+reportBy (suc k) energy ratio count = Refused (suc k)
+
+-- The drape after it, where it was old and the step would leave new.
+abbrev pub drapeBy : ℕ → List Float → List Float → List Float
+drapeBy zero old new = new
+drapeBy (suc k) old new = old
+
+abbrev pub stepAnswer : Update → StepAnswer
+stepAnswer u = reportBy (first (u .rows)) (u .energy) (u .ratio) (u .count)
+
+abbrev pub stepDrape : List Float → Update → List Float
+stepDrape old u = drapeBy (first (u .rows)) old (u .drape)
+
+-- A step has begun with b and the number k. Where it goes on, e is b's energy and the system in the work area w is b's; b's shape stands in w either way.
+pub record Begins (n : ℕ) (b : Begun) (k : ℕ) (e : Float) (w : List Float) : Type 0 where
+  pub number : k ≡ first (beginRows n b)
+  pub energyIs : k ≡ 0 → e ≡ b .energy
+  pub systemIs : k ≡ 0 → systemAt n w ≡ b .system
+  pub shapeIs : stagedShape n w ≡ b .now

@@ -1,5 +1,5 @@
 -- One seat's data, and the whole bench: document 01, "The areas" and "Bench".
-use mathlib.Core.List.{List}
+use mathlib.Core.List.{List, [], _∷_}
 use Prim.Native.Nat.{ℕ, _*_}
 use lib.ListN.{getD, set, replicate}
 use lib.Ieee.{Float, nan}
@@ -24,6 +24,13 @@ pub record Strand : Type 0 where
 abbrev pub strand : ℕ → Settings → List Float → List Float → List ℕ → Strand
 strand n g rest drape pins = record { count = n; settings = g; rest = rest; drape = drape; pins = pins }
 
+-- The strand with another drape, and with other pins.
+abbrev pub withDrape : Strand → List Float → Strand
+withDrape t d = strand (t .count) (t .settings) (t .rest) d (t .pins)
+
+abbrev pub withPinBytes : Strand → List ℕ → Strand
+withPinBytes t p = strand (t .count) (t .settings) (t .rest) (t .drape) p
+
 -- The record and the three areas that live on between calls.
 pub record Bench : Type 0 where
   pub seats : Record
@@ -34,8 +41,17 @@ pub record Bench : Type 0 where
 abbrev pub benchOf : Record → List Float → List Float → List ℕ → Bench
 benchOf r rest drape pins = record { seats = r; rest = rest; drape = drape; pins = pins }
 
+-- The settings with these stiffnesses, against stretch and the three against bend and twist, and this ratio.
+abbrev pub settingsBy : Float → Float → Float → Float → Float → Settings
+settingsBy k a b c r = record { «stiff_length» = k; «stiff_bendtwist0» = a; «stiff_bendtwist1» = b; «stiff_bendtwist2» = c; «conv_ratio» = r }
+
+-- All of them x.
 abbrev pub settingsOf : Float → Settings
 settingsOf x = record { «stiff_length» = x; «stiff_bendtwist0» = x; «stiff_bendtwist1» = x; «stiff_bendtwist2» = x; «conv_ratio» = x }
+
+-- The numbers of the settings, one after the other: what is asked of all of them is asked once.
+abbrev pub settingNumbers : Settings → List Float
+settingNumbers g = g .«stiff_length» ∷ g .«stiff_bendtwist0» ∷ g .«stiff_bendtwist1» ∷ g .«stiff_bendtwist2» ∷ g .«conv_ratio» ∷ []
 
 -- "A new bench is all zero."
 unfoldable pub newRecord : Record
@@ -47,6 +63,17 @@ newBench = record { seats = newRecord; rest = replicate restNumbers plusZero; dr
 -- What is read of a record's list past its end.
 abbrev pub noSettings : Settings
 noSettings = settingsOf nan
+
+-- What the record says of one seat.
+pub record Entry : Type 0 where
+  pub count : ℕ
+  pub settings : Settings
+
+abbrev pub seatEntry : ℕ → Settings → Entry
+seatEntry n g = record { count = n; settings = g }
+
+abbrev pub entryOf : ℕ → Record → Entry
+entryOf s r = seatEntry (getD (r .counts) s 0) (getD (r .settings) s noSettings)
 
 -- The strand of seat s, and the bench with x for the strand of seat s.
 unfoldable pub strandOf : ℕ → Bench → Strand
@@ -65,3 +92,21 @@ putStrand s x b = record {
   drape = put (b .drape) (drapePart * s) (x .drape);
   pins = put (b .pins) (pinPart * s) (x .pins);
 }
+
+-- A strand that is written on a seat.
+pub record Left : Type 0 where
+  pub seat : ℕ
+  pub strand : Strand
+
+abbrev pub left : ℕ → Strand → Left
+left s x = record { seat = s; strand = x }
+
+-- Each of these on seat s.
+abbrev pub onSeat : ℕ → List Strand → List Left
+onSeat s [] = []
+onSeat s (x ∷ xs) = left s x ∷ onSeat s xs
+
+-- Several, written one after the other.
+unfoldable pub putAll : List Left → Bench → Bench
+putAll [] b = b
+putAll (l ∷ ls) b = putAll ls (putStrand (l .seat) (l .strand) b)

@@ -1,15 +1,18 @@
-// What a step is asked before its strand is looked at.
+// What a step is asked before it begins.
 use crate::answers::Pick;
 use crate::areas;
-use crate::given;
+use crate::entry;
 use crate::seats::Record;
 use matrix::area;
 use vectors::finite;
 ghost use mathlib.Core.Path.{_≡_};
-ghost use Rattle.bench.specs.Strand.{benchOf};
-ghost use Rattle.bench.specs.Step.{pickFits};
-ghost use Rattle.bench.specs.Calls.{goalFits, timeFits};
-ghost use Rattle.bench.specs.Asked.{asked};
+ghost use mathlib.Core.List.{_++_};
+ghost use Rattle.bench.specs.Strand.{strandOf, benchOf};
+ghost use Rattle.bench.specs.Rows.{first};
+ghost use Rattle.bench.specs.Step.{Time, over, pickFits, goalFits, timeFits};
+ghost use Rattle.bench.specs.Asks.{step, lends, callWith, lentOf};
+ghost use Rattle.bench.specs.Requests.{askedRows};
+ghost use Rattle.bench.specs.Calls.{lentLong, seatRows};
 
 // Whether the pick is of one of the n vertices, if there is one.
 fn pick_fits(n: usize, pick: Pick) -> bool
@@ -22,7 +25,7 @@ fn pick_fits(n: usize, pick: Pick) -> bool
 }
 
 // Whether its goal is finite.
-pub(crate) fn goal_fits(pick: Pick) -> bool
+fn goal_fits(pick: Pick) -> bool
     ensures { λ r. ⌜ r ≡ goalFits pick ⌝ }
 {
     match pick {
@@ -33,13 +36,13 @@ pub(crate) fn goal_fits(pick: Pick) -> bool
 
 // Whether a time is finite and above 0.
 pub(crate) fn time_fits(dt: f64) -> bool
-    ensures { λ r. ⌜ r ≡ timeFits dt ⌝ }
+    ensures { λ r. ⌜ r ≡ timeFits (over dt) ⌝ }
 {
     finite::is_finite(dt) & (0.0 < dt)
 }
 
-// The number below 7 that a step is refused with, 0 for none; `fits` is whether the given numbers
-// pass 6.
+// The number that a step is refused with before it begins, 0 for none; `fits` is whether its time
+// passes 6.
 pub(crate) fn step_number(
     seats: Record,
     rest: &[f64],
@@ -50,27 +53,21 @@ pub(crate) fn step_number(
     pick: Pick,
     fits: bool,
 ) -> u8
-    ensures { λ k. ⌜ k ≡ asked (now (work .entry)) fits seat pick (benchOf seats (now (rest .entry)) (now (drape .entry)) (now (pins .entry))) ⌝ }
+    ensures { λ k. ⌜ ((time : Time) → fits ≡ timeFits time → k ≡ first (seatRows (lentLong (lends (step pick time)) (lentOf (callWith (now (work .entry)) seat (step pick time))) (benchOf seats (now (rest .entry)) (now (drape .entry)) (now (pins .entry)))) seat seats ++ askedRows (strandOf seat (benchOf seats (now (rest .entry)) (now (drape .entry)) (now (pins .entry)))) pick time)) ⌝ }
 {
     let long = (rest.len() == areas::REST)
         & (drape.len() == areas::DRAPE)
         & (pins.len() == areas::PINS)
         & (work.len() == area::NUMBERS);
-    if !long | !given::good_record(seats) {
-        return 1;
-    }
-    if areas::SEATS <= seat {
-        return 2;
+    let k = entry::taken_number(seats, long, seat);
+    if k != 0 {
+        return k;
     }
     let counts = seats.counts;
-    let n = counts[seat];
-    if n == 0 {
-        return 3;
-    }
-    if !pick_fits(n, pick) {
+    if !pick_fits(counts[seat], pick) {
         return 5;
     }
-    if !fits {
+    if !(goal_fits(pick) & fits) {
         return 6;
     }
     0

@@ -11,6 +11,7 @@ ghost use Rattle.vectors.specs.Finite.{isFinite};
 ghost use Rattle.vectors.specs.Edge.{edgeLength};
 ghost use Rattle.matrix.specs.Rows.{row3, rows3};
 ghost use Rattle.matrix.specs.System.{every};
+ghost use Rattle.bench.specs.Strand.{seatEntry};
 ghost use Rattle.bench.specs.Given.{goodCount, notNegative, goodSettings, goodSeat, goodRecord, edgesFit};
 
 // From 2 to 32 vertices.
@@ -39,7 +40,7 @@ pub fn good_settings(g: Settings) -> bool
 
 // An empty seat, or a count and settings that load takes.
 fn good_seat(n: usize, g: Settings) -> bool
-    ensures { λ r. ⌜ r ≡ goodSeat n g ⌝ }
+    ensures { λ r. ⌜ r ≡ goodSeat (seatEntry n g) ⌝ }
 {
     (n == 0) | (good_count(n) & good_settings(g))
 }

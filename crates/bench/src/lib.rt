@@ -2,6 +2,7 @@
 pub mod answers;
 pub mod areas;
 mod asked;
+mod entry;
 pub mod given;
 pub mod load;
 pub mod look;

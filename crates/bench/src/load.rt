@@ -1,5 +1,6 @@
 // The call load: a strand is laid on an empty seat.
 use crate::areas;
+use crate::entry;
 use crate::given;
 use crate::seats;
 use crate::seats::Changed;
@@ -14,8 +15,9 @@ ghost use Rattle.vectors.specs.Finite.{isFinite};
 ghost use Rattle.matrix.specs.System.{every};
 ghost use Rattle.bench.specs.Strand.{benchOf};
 ghost use Rattle.bench.specs.Given.{goodCount, goodSettings};
-ghost use Rattle.bench.specs.Verdicts.{said};
-ghost use Rattle.bench.specs.Calls.{load, call, numberOf, answerOf, afterOf};
+ghost use Rattle.bench.specs.Answers.{said};
+ghost use Rattle.bench.specs.Asks.{loadOf, load, call};
+ghost use Rattle.bench.specs.Calls.{numberOf, answerOf, afterOf};
 
 // Whether n is a strand's number of vertices and both lists have three numbers for each.
 fn lists_fit(n: usize, positions: usize, frames: usize) -> bool
@@ -48,19 +50,14 @@ fn load_number(
     positions: &[f64],
     frames: &[f64],
 ) -> u8
-    ensures { λ k. ⌜ k ≡ numberOf (call seat (load n settings (now (positions .entry)) (now (frames .entry)))) (benchOf seats (now (rest .entry)) (now (drape .entry)) (now (pins .entry))) ⌝ }
+    ensures { λ k. ⌜ k ≡ numberOf (call seat (load (loadOf n settings (now (positions .entry)) (now (frames .entry))))) (benchOf seats (now (rest .entry)) (now (drape .entry)) (now (pins .entry))) ⌝ }
 {
-    if !((rest.len() == areas::REST) & (drape.len() == areas::DRAPE) & (pins.len() == areas::PINS))
-        | !given::good_record(seats)
-    {
-        return 1;
-    }
-    if areas::SEATS <= seat {
-        return 2;
-    }
-    let counts = seats.counts;
-    if counts[seat] != 0 {
-        return 3;
+    let long = (rest.len() == areas::REST)
+        & (drape.len() == areas::DRAPE)
+        & (pins.len() == areas::PINS);
+    let k = entry::vacant_number(seats, long, seat);
+    if k != 0 {
+        return k;
     }
     if !lists_fit(n, positions.len(), frames.len()) {
         return 4;
@@ -86,8 +83,8 @@ pub fn load_value(
     positions: &[f64],
     frames: &[f64],
 ) -> Changed
-    ensures { λ r. ⌜ said (r .refusal) ≡ answerOf (call seat (load n settings (now (positions .entry)) (now (frames .entry)))) (benchOf seats (now (rest .entry)) (now (drape .entry)) (now (pins .entry))) ⌝ }
-    ensures { λ r. ⌜ benchOf (r .seats) (now (rest .exit)) (now (drape .exit)) (now (pins .exit)) ≡ afterOf (call seat (load n settings (now (positions .entry)) (now (frames .entry)))) (benchOf seats (now (rest .entry)) (now (drape .entry)) (now (pins .entry))) ⌝ }
+    ensures { λ r. ⌜ said (r .refusal) ≡ answerOf (call seat (load (loadOf n settings (now (positions .entry)) (now (frames .entry))))) (benchOf seats (now (rest .entry)) (now (drape .entry)) (now (pins .entry))) ⌝ }
+    ensures { λ r. ⌜ benchOf (r .seats) (now (rest .exit)) (now (drape .exit)) (now (pins .exit)) ≡ afterOf (call seat (load (loadOf n settings (now (positions .entry)) (now (frames .entry))))) (benchOf seats (now (rest .entry)) (now (drape .entry)) (now (pins .entry))) ⌝ }
 {
     let k = load_number(
         seats,
@@ -122,8 +119,8 @@ pub fn load(
     positions: &[f64],
     frames: &[f64],
 ) -> u8
-    ensures { λ r. ⌜ said r ≡ answerOf (call seat (load n settings (now (positions .entry)) (now (frames .entry)))) (benchOf (now (seats .entry)) (now (rest .entry)) (now (drape .entry)) (now (pins .entry))) ⌝ }
-    ensures { λ _. ⌜ benchOf (now (seats .exit)) (now (rest .exit)) (now (drape .exit)) (now (pins .exit)) ≡ afterOf (call seat (load n settings (now (positions .entry)) (now (frames .entry)))) (benchOf (now (seats .entry)) (now (rest .entry)) (now (drape .entry)) (now (pins .entry))) ⌝ }
+    ensures { λ r. ⌜ said r ≡ answerOf (call seat (load (loadOf n settings (now (positions .entry)) (now (frames .entry))))) (benchOf (now (seats .entry)) (now (rest .entry)) (now (drape .entry)) (now (pins .entry))) ⌝ }
+    ensures { λ _. ⌜ benchOf (now (seats .exit)) (now (rest .exit)) (now (drape .exit)) (now (pins .exit)) ≡ afterOf (call seat (load (loadOf n settings (now (positions .entry)) (now (frames .entry))))) (benchOf (now (seats .entry)) (now (rest .entry)) (now (drape .entry)) (now (pins .entry))) ⌝ }
 {
     let out = load_value(
         *seats,

@@ -1,28 +1,23 @@
 // The call look, which hands back a part of an area itself, and its companion.
 use crate::areas;
-use crate::given;
+use crate::entry;
 use crate::seats::Record;
 ghost use mathlib.Core.Path.{_≡_};
 ghost use mathlib.Core.List.{List};
 ghost use Prim.Native.Nat.{ℕ};
 ghost use Rattle.bench.specs.Strand.{benchOf};
-ghost use Rattle.bench.specs.Verdicts.{said, handed};
-ghost use Rattle.bench.specs.Calls.{look, companion, call, numberOf, answerOf, afterOf};
+ghost use Rattle.bench.specs.Answers.{said, handed};
+ghost use Rattle.bench.specs.Asks.{look, companion, call};
+ghost use Rattle.bench.specs.Calls.{numberOf, answerOf, afterOf};
 
 // The number that a look is refused with, 0 for none.
 fn look_number(seats: Record, rest: &[f64], drape: &[f64], seat: usize, kind: usize) -> u8
     ensures { λ k. ⌜ ((pins : List ℕ) → k ≡ numberOf (call seat (look kind)) (benchOf seats (now (rest .entry)) (now (drape .entry)) pins)) ⌝ }
 {
-    if !((rest.len() == areas::REST) & (drape.len() == areas::DRAPE)) | !given::good_record(seats) {
-        return 1;
-    }
-    if areas::SEATS <= seat {
-        return 2;
-    }
-    let counts = seats.counts;
-    let n = counts[seat];
-    if n == 0 {
-        return 3;
+    let long = (rest.len() == areas::REST) & (drape.len() == areas::DRAPE);
+    let k = entry::taken_number(seats, long, seat);
+    if k != 0 {
+        return k;
     }
     if 5 <= kind {
         return 5;

@@ -5,7 +5,7 @@ ghost use lib.ListN.{length, replicate};
 ghost use Rattle.vectors.specs.Number.{plusZero};
 ghost use Rattle.matrix.specs.Parts.{put};
 ghost use Rattle.bench.specs.Areas.{vectorPart};
-ghost use Rattle.bench.specs.Calls.{padded};
+ghost use Rattle.bench.specs.Requests.{padded};
 
 // The list becomes the numbers of the area from `at` on.
 pub(crate) fn store(area: &mut [f64], at: usize, list: &[f64])

@@ -1,31 +1,26 @@
 // The call pin: one byte of one seat's pins.
 use crate::areas;
-use crate::given;
+use crate::entry;
 use crate::seats::Record;
 ghost use mathlib.Core.Path.{_≡_};
 ghost use mathlib.Core.List.{List};
 ghost use Prim.Native.Nat.{ℕ};
 ghost use lib.Ieee.{Float};
 ghost use Rattle.bench.specs.Strand.{benchOf};
-ghost use Rattle.bench.specs.Verdicts.{said};
-ghost use Rattle.bench.specs.Calls.{pin, call, numberOf, answerOf, afterOf};
+ghost use Rattle.bench.specs.Answers.{said};
+ghost use Rattle.bench.specs.Asks.{pin, call};
+ghost use Rattle.bench.specs.Calls.{numberOf, answerOf, afterOf};
 
 // The number that it is refused with, 0 for none.
 fn pin_number(seats: Record, pins: &[u8], seat: usize, vertex: usize, component: usize) -> u8
     ensures { λ k. ⌜ ((rest drape : List Float) (byte : ℕ) → k ≡ numberOf (call seat (pin vertex component byte)) (benchOf seats rest drape (now (pins .entry)))) ⌝ }
 {
-    if (pins.len() != areas::PINS) | !given::good_record(seats) {
-        return 1;
-    }
-    if areas::SEATS <= seat {
-        return 2;
+    let k = entry::taken_number(seats, pins.len() == areas::PINS, seat);
+    if k != 0 {
+        return k;
     }
     let counts = seats.counts;
-    let n = counts[seat];
-    if n == 0 {
-        return 3;
-    }
-    if (n <= vertex) | (4 <= component) {
+    if !((vertex < counts[seat]) & (component < 4)) {
         return 5;
     }
     0

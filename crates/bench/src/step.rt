@@ -16,8 +16,7 @@ ghost use lib.ListN.{length};
 ghost use Rattle.matrix.specs.Area.{workNumbers};
 ghost use Rattle.bench.specs.Areas.{restPart, drapePart, pinPart};
 ghost use Rattle.bench.specs.Strand.{strand};
-ghost use Rattle.bench.specs.Verdicts.{reported};
-ghost use Rattle.bench.specs.Step.{updateStatic, updateDynamic, reportBy, drapeBy, pickFits};
+ghost use Rattle.bench.specs.Step.{still, over, pickFits, updateOf, stepAnswer, stepDrape};
 
 // A static step: the drape's shape moves towards rest, against the pick.
 pub(crate) fn update_static(
@@ -35,8 +34,8 @@ pub(crate) fn update_static(
     requires { ⌜ length (now drape) ≡ drapePart ⌝ }
     requires { ⌜ length (now pins) ≡ pinPart ⌝ }
     requires { ⌜ length (now work) ≡ workNumbers ⌝ }
-    ensures { λ r. ⌜ reported r ≡ reportBy (updateStatic (strand n settings (now (rest .entry)) (now (drape .entry)) (now (pins .entry))) pick) ⌝ }
-    ensures { λ _. ⌜ now (drape .exit) ≡ drapeBy (now (drape .entry)) (updateStatic (strand n settings (now (rest .entry)) (now (drape .entry)) (now (pins .entry))) pick) ⌝ }
+    ensures { λ r. ⌜ r ≡ stepAnswer (updateOf (strand n settings (now (rest .entry)) (now (drape .entry)) (now (pins .entry))) pick still) ⌝ }
+    ensures { λ _. ⌜ now (drape .exit) ≡ stepDrape (now (drape .entry)) (updateOf (strand n settings (now (rest .entry)) (now (drape .entry)) (now (pins .entry))) pick still) ⌝ }
 {
     let b = begin::begin_static(work, rest, &drape[..], n, settings, pick);
     if b.refusal != 0 {
@@ -63,8 +62,8 @@ pub(crate) fn update_dynamic(
     requires { ⌜ length (now drape) ≡ drapePart ⌝ }
     requires { ⌜ length (now pins) ≡ pinPart ⌝ }
     requires { ⌜ length (now work) ≡ workNumbers ⌝ }
-    ensures { λ r. ⌜ reported r ≡ reportBy (updateDynamic (strand n settings (now (rest .entry)) (now (drape .entry)) (now (pins .entry))) pick dt) ⌝ }
-    ensures { λ _. ⌜ now (drape .exit) ≡ drapeBy (now (drape .entry)) (updateDynamic (strand n settings (now (rest .entry)) (now (drape .entry)) (now (pins .entry))) pick dt) ⌝ }
+    ensures { λ r. ⌜ r ≡ stepAnswer (updateOf (strand n settings (now (rest .entry)) (now (drape .entry)) (now (pins .entry))) pick (over dt)) ⌝ }
+    ensures { λ _. ⌜ now (drape .exit) ≡ stepDrape (now (drape .entry)) (updateOf (strand n settings (now (rest .entry)) (now (drape .entry)) (now (pins .entry))) pick (over dt)) ⌝ }
 {
     let b = begin::begin_dynamic(work, rest, &drape[..], pins, n, settings, pick, dt);
     if b.refusal != 0 {

@@ -14,10 +14,11 @@ ghost use Rattle.matrix.specs.Parts.{part, put};
 ghost use Rattle.matrix.specs.Area.{workNumbers};
 ghost use Rattle.bench.specs.Areas.{seats, restNumbers, drapeNumbers, pinBytes, restPart, drapePart, pinPart};
 ghost use Rattle.bench.specs.Strand.{strand, benchOf};
-ghost use Rattle.bench.specs.Verdicts.{reported};
-ghost use Rattle.bench.specs.Step.{pickFits, updateStatic, updateDynamic, reportBy, drapeBy};
-ghost use Rattle.bench.specs.Calls.{stepStatic, stepDynamic, call, numberOf, answerOf, afterOf};
-ghost use Rattle.bench.specs.Asked.{LeavesWork};
+ghost use Rattle.bench.specs.Rows.{LeavesWork};
+ghost use Rattle.bench.specs.Answers.{reported};
+ghost use Rattle.bench.specs.Step.{still, over, pickFits, updateOf, stepAnswer, stepDrape};
+ghost use Rattle.bench.specs.Asks.{step, callWith};
+ghost use Rattle.bench.specs.Calls.{numberOf, answerOf, afterOf};
 
 // A static step of the seat's strand, which has n vertices and the settings g.
 fn static_on(
@@ -37,8 +38,8 @@ fn static_on(
     requires { ⌜ length (now drape) ≡ drapeNumbers ⌝ }
     requires { ⌜ length (now pins) ≡ pinBytes ⌝ }
     requires { ⌜ length (now work) ≡ workNumbers ⌝ }
-    ensures { λ r. ⌜ reported r ≡ reportBy (updateStatic (strand n g (part (now (rest .entry)) (restPart * seat) restPart) (part (now (drape .entry)) (drapePart * seat) drapePart) (part (now (pins .entry)) (pinPart * seat) pinPart)) pick) ⌝ }
-    ensures { λ _. ⌜ now (drape .exit) ≡ put (now (drape .entry)) (drapePart * seat) (drapeBy (part (now (drape .entry)) (drapePart * seat) drapePart) (updateStatic (strand n g (part (now (rest .entry)) (restPart * seat) restPart) (part (now (drape .entry)) (drapePart * seat) drapePart) (part (now (pins .entry)) (pinPart * seat) pinPart)) pick)) ⌝ }
+    ensures { λ r. ⌜ r ≡ stepAnswer (updateOf (strand n g (part (now (rest .entry)) (restPart * seat) restPart) (part (now (drape .entry)) (drapePart * seat) drapePart) (part (now (pins .entry)) (pinPart * seat) pinPart)) pick still) ⌝ }
+    ensures { λ _. ⌜ now (drape .exit) ≡ put (now (drape .entry)) (drapePart * seat) (stepDrape (part (now (drape .entry)) (drapePart * seat) drapePart) (updateOf (strand n g (part (now (rest .entry)) (restPart * seat) restPart) (part (now (drape .entry)) (drapePart * seat) drapePart) (part (now (pins .entry)) (pinPart * seat) pinPart)) pick still)) ⌝ }
 {
     let r = areas::REST_PART * seat;
     let d = areas::DRAPE_PART * seat;
@@ -64,12 +65,11 @@ pub fn update_static(
     seat: usize,
     pick: Pick,
 ) -> StepAnswer
-    ensures { λ r. ⌜ reported r ≡ answerOf (call seat (stepStatic pick (now (work .entry)))) (benchOf seats (now (rest .entry)) (now (drape .entry)) (now (pins .entry))) ⌝ }
-    ensures { λ _. ⌜ benchOf seats (now (rest .entry)) (now (drape .exit)) (now (pins .entry)) ≡ afterOf (call seat (stepStatic pick (now (work .entry)))) (benchOf seats (now (rest .entry)) (now (drape .entry)) (now (pins .entry))) ⌝ }
-    ensures { λ _. ⌜ LeavesWork (numberOf (call seat (stepStatic pick (now (work .entry)))) (benchOf seats (now (rest .entry)) (now (drape .entry)) (now (pins .entry)))) (now (work .entry)) (now (work .exit)) ⌝ }
+    ensures { λ r. ⌜ reported r ≡ answerOf (callWith (now (work .entry)) seat (step pick still)) (benchOf seats (now (rest .entry)) (now (drape .entry)) (now (pins .entry))) ⌝ }
+    ensures { λ _. ⌜ benchOf seats (now (rest .entry)) (now (drape .exit)) (now (pins .entry)) ≡ afterOf (callWith (now (work .entry)) seat (step pick still)) (benchOf seats (now (rest .entry)) (now (drape .entry)) (now (pins .entry))) ⌝ }
+    ensures { λ _. ⌜ LeavesWork (numberOf (callWith (now (work .entry)) seat (step pick still)) (benchOf seats (now (rest .entry)) (now (drape .entry)) (now (pins .entry)))) (now (work .entry)) (now (work .exit)) ⌝ }
 {
-    let fits = asked::goal_fits(pick);
-    let k = asked::step_number(seats, rest, &drape[..], pins, &work[..], seat, pick, fits);
+    let k = asked::step_number(seats, rest, &drape[..], pins, &work[..], seat, pick, true);
     if k != 0 {
         return StepAnswer::Refused(k);
     }
@@ -106,8 +106,8 @@ fn dynamic_on(
     requires { ⌜ length (now drape) ≡ drapeNumbers ⌝ }
     requires { ⌜ length (now pins) ≡ pinBytes ⌝ }
     requires { ⌜ length (now work) ≡ workNumbers ⌝ }
-    ensures { λ r. ⌜ reported r ≡ reportBy (updateDynamic (strand n g (part (now (rest .entry)) (restPart * seat) restPart) (part (now (drape .entry)) (drapePart * seat) drapePart) (part (now (pins .entry)) (pinPart * seat) pinPart)) pick dt) ⌝ }
-    ensures { λ _. ⌜ now (drape .exit) ≡ put (now (drape .entry)) (drapePart * seat) (drapeBy (part (now (drape .entry)) (drapePart * seat) drapePart) (updateDynamic (strand n g (part (now (rest .entry)) (restPart * seat) restPart) (part (now (drape .entry)) (drapePart * seat) drapePart) (part (now (pins .entry)) (pinPart * seat) pinPart)) pick dt)) ⌝ }
+    ensures { λ r. ⌜ r ≡ stepAnswer (updateOf (strand n g (part (now (rest .entry)) (restPart * seat) restPart) (part (now (drape .entry)) (drapePart * seat) drapePart) (part (now (pins .entry)) (pinPart * seat) pinPart)) pick (over dt)) ⌝ }
+    ensures { λ _. ⌜ now (drape .exit) ≡ put (now (drape .entry)) (drapePart * seat) (stepDrape (part (now (drape .entry)) (drapePart * seat) drapePart) (updateOf (strand n g (part (now (rest .entry)) (restPart * seat) restPart) (part (now (drape .entry)) (drapePart * seat) drapePart) (part (now (pins .entry)) (pinPart * seat) pinPart)) pick (over dt))) ⌝ }
 {
     let r = areas::REST_PART * seat;
     let d = areas::DRAPE_PART * seat;
@@ -135,11 +135,11 @@ pub fn update_dynamic(
     pick: Pick,
     dt: f64,
 ) -> StepAnswer
-    ensures { λ r. ⌜ reported r ≡ answerOf (call seat (stepDynamic pick dt (now (work .entry)))) (benchOf seats (now (rest .entry)) (now (drape .entry)) (now (pins .entry))) ⌝ }
-    ensures { λ _. ⌜ benchOf seats (now (rest .entry)) (now (drape .exit)) (now (pins .entry)) ≡ afterOf (call seat (stepDynamic pick dt (now (work .entry)))) (benchOf seats (now (rest .entry)) (now (drape .entry)) (now (pins .entry))) ⌝ }
-    ensures { λ _. ⌜ LeavesWork (numberOf (call seat (stepDynamic pick dt (now (work .entry)))) (benchOf seats (now (rest .entry)) (now (drape .entry)) (now (pins .entry)))) (now (work .entry)) (now (work .exit)) ⌝ }
+    ensures { λ r. ⌜ reported r ≡ answerOf (callWith (now (work .entry)) seat (step pick (over dt))) (benchOf seats (now (rest .entry)) (now (drape .entry)) (now (pins .entry))) ⌝ }
+    ensures { λ _. ⌜ benchOf seats (now (rest .entry)) (now (drape .exit)) (now (pins .entry)) ≡ afterOf (callWith (now (work .entry)) seat (step pick (over dt))) (benchOf seats (now (rest .entry)) (now (drape .entry)) (now (pins .entry))) ⌝ }
+    ensures { λ _. ⌜ LeavesWork (numberOf (callWith (now (work .entry)) seat (step pick (over dt))) (benchOf seats (now (rest .entry)) (now (drape .entry)) (now (pins .entry)))) (now (work .entry)) (now (work .exit)) ⌝ }
 {
-    let fits = asked::goal_fits(pick) & asked::time_fits(dt);
+    let fits = asked::time_fits(dt);
     let k = asked::step_number(seats, rest, &drape[..], pins, &work[..], seat, pick, fits);
     if k != 0 {
         return StepAnswer::Refused(k);

@@ -8,7 +8,7 @@ ghost use lib.ListN.{length, replicate};
 ghost use Rattle.vectors.specs.Number.{plusZero};
 ghost use Rattle.matrix.specs.Parts.{put};
 ghost use Rattle.bench.specs.Areas.{seats, restNumbers, drapeNumbers, pinBytes, restPart, drapePart, pinPart, vectorPart};
-ghost use Rattle.bench.specs.Calls.{padded};
+ghost use Rattle.bench.specs.Requests.{padded};
 
 // Everything that the seat has in the areas becomes 0.
 pub(crate) fn clear(rest: &mut [f64], drape: &mut [f64], pins: &mut [u8], seat: usize)

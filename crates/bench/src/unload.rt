@@ -1,6 +1,6 @@
 // The call unload: the seat is emptied.
 use crate::areas;
-use crate::given;
+use crate::entry;
 use crate::seats;
 use crate::seats::Changed;
 use crate::seats::Record;
@@ -8,26 +8,18 @@ use crate::seats::Settings;
 use crate::strands;
 ghost use mathlib.Core.Path.{_≡_};
 ghost use Rattle.bench.specs.Strand.{benchOf};
-ghost use Rattle.bench.specs.Verdicts.{said};
-ghost use Rattle.bench.specs.Calls.{unload, call, numberOf, answerOf, afterOf};
+ghost use Rattle.bench.specs.Answers.{said};
+ghost use Rattle.bench.specs.Asks.{unload, call};
+ghost use Rattle.bench.specs.Calls.{numberOf, answerOf, afterOf};
 
 // The number that it is refused with, 0 for none.
 fn unload_number(seats: Record, rest: &[f64], drape: &[f64], pins: &[u8], seat: usize) -> u8
     ensures { λ k. ⌜ k ≡ numberOf (call seat unload) (benchOf seats (now (rest .entry)) (now (drape .entry)) (now (pins .entry))) ⌝ }
 {
-    if !((rest.len() == areas::REST) & (drape.len() == areas::DRAPE) & (pins.len() == areas::PINS))
-        | !given::good_record(seats)
-    {
-        return 1;
-    }
-    if areas::SEATS <= seat {
-        return 2;
-    }
-    let counts = seats.counts;
-    if counts[seat] == 0 {
-        return 3;
-    }
-    0
+    let long = (rest.len() == areas::REST)
+        & (drape.len() == areas::DRAPE)
+        & (pins.len() == areas::PINS);
+    entry::taken_number(seats, long, seat)
 }
 
 // Everything that the seat has becomes 0.

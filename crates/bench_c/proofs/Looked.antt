@@ -11,10 +11,12 @@ use Rattle.matrix.specs.Parts.{part}
 use Rattle.bench.specs.declared.seats.Record.{Record}
 use Rattle.bench.specs.Areas.{restPart, drapePart, vectorPart}
 use Rattle.bench.specs.Strand.{benchOf}
-use Rattle.bench.specs.Verdicts.{Answer, said, handed, reported}
-use Rattle.bench.specs.Calls.{call, look, companion, numberOf, answerOf}
-use Rattle.bench.proofs.Local.{companion-tells}
-use Rattle.bench.proofs.LookTable.{Looks, looks, looks-rest, looks-drape, looks-declined}
+use Rattle.bench.specs.Answers.{Answer, said, handed, reported}
+use Rattle.bench.specs.Asks.{look, companion, call}
+use Rattle.bench.specs.Calls.{numberOf, answerOf}
+use Rattle.bench.proofs.EveryCall.{companion-tells}
+use Rattle.bench.proofs.Entered.{call-declined}
+use Rattle.bench.proofs.LookRows.{Looks, looks, looks-rest, looks-drape}
 use Rattle.bench_c.specs.declared.Place.{Place}
 use Rattle.bench_c.specs.Exported.{lookedAt, beginsAt, placeBy, placeOf}
 
@@ -47,7 +49,7 @@ module _ (r : Record) (rest drape : List Float) (s kind k : ℕ) (tells : (pins 
   unfolding part
   refused h pins = record {
     is = none k s kind n h ∙ ap (λ (j : ℕ). placeBy j s kind n) (number pins);
-    shows = looks-declined r rest drape pins s kind k (number pins) h;
+    shows = call-declined (call s (look kind)) (benchOf r rest drape pins) k (number pins) h .0;
   }
 
   pub known : k ≡ 0 → (pins : List ℕ) → Looks r rest drape pins s kind

@@ -11,9 +11,9 @@ use Rattle.bench.specs.declared.answers.Pick.{Pick}
 use Rattle.bench.specs.declared.answers.Pick.the-variants.{Nothing, At}
 use Rattle.bench.specs.Areas.{restPart, drapePart, vectorPart}
 use Rattle.bench.specs.Strand.{Bench}
-use Rattle.bench.specs.StepNumbers.{stepNumbers}
-use Rattle.bench.specs.Verdicts.{Answer, said, handed, reported}
-use Rattle.bench.specs.Calls.{call, look, numberOf}
+use Rattle.bench.specs.Answers.{Answer, said, handed, reported, stepNumbers}
+use Rattle.bench.specs.Asks.{look, call}
+use Rattle.bench.specs.Calls.{numberOf}
 use Rattle.bench_c.specs.declared.Report.{Report}
 use Rattle.bench_c.specs.declared.Place.{Place}
 

@@ -18,9 +18,11 @@ ghost use Rattle.roots.specs.Sqrt.{sqrtOf};
 ghost use Rattle.vectors.specs.Vec3.{vec3};
 ghost use Rattle.bench.specs.Strand.{benchOf};
 ghost use Rattle.matrix.specs.Parts.{part};
-ghost use Rattle.bench.specs.Verdicts.{said, handed, reported};
-ghost use Rattle.bench.specs.Calls.{load, unload, pin, look, companion, stepStatic, stepDynamic, call, numberOf, answerOf, afterOf};
-ghost use Rattle.bench.specs.Asked.{LeavesWork};
+ghost use Rattle.bench.specs.Rows.{LeavesWork};
+ghost use Rattle.bench.specs.Answers.{said, handed, reported};
+ghost use Rattle.bench.specs.Step.{still, over};
+ghost use Rattle.bench.specs.Asks.{loadOf, load, unload, pin, look, companion, step, callWith, call};
+ghost use Rattle.bench.specs.Calls.{numberOf, answerOf, afterOf};
 ghost use Rattle.bench_c.specs.Exported.{pickOf, reportOf, lookedAt, placeOf};
 
 // A step's answer: the number that it is refused with, 0 for none, and its numbers.
@@ -85,8 +87,8 @@ pub extern "C" fn hairbench_load(
     positions: &[f64],
     frames: &[f64],
 ) -> u8
-    ensures { λ r. ⌜ said r ≡ answerOf (call seat (load n settings (now (positions .entry)) (now (frames .entry)))) (benchOf (now («record» .entry)) (now (rest .entry)) (now (drape .entry)) (now (pins .entry))) ⌝ }
-    ensures { λ _. ⌜ benchOf (now («record» .exit)) (now (rest .exit)) (now (drape .exit)) (now (pins .exit)) ≡ afterOf (call seat (load n settings (now (positions .entry)) (now (frames .entry)))) (benchOf (now («record» .entry)) (now (rest .entry)) (now (drape .entry)) (now (pins .entry))) ⌝ }
+    ensures { λ r. ⌜ said r ≡ answerOf (call seat (load (loadOf n settings (now (positions .entry)) (now (frames .entry))))) (benchOf (now («record» .entry)) (now (rest .entry)) (now (drape .entry)) (now (pins .entry))) ⌝ }
+    ensures { λ _. ⌜ benchOf (now («record» .exit)) (now (rest .exit)) (now (drape .exit)) (now (pins .exit)) ≡ afterOf (call seat (load (loadOf n settings (now (positions .entry)) (now (frames .entry))))) (benchOf (now («record» .entry)) (now (rest .entry)) (now (drape .entry)) (now (pins .entry))) ⌝ }
 {
     let out = load::load_value(
         *record,
@@ -201,9 +203,9 @@ pub extern "C" fn hairbench_step_static(
     y: f64,
     z: f64,
 ) -> Report
-    ensures { λ r. ⌜ r ≡ reportOf (answerOf (call seat (stepStatic (pickOf flag vertex (vec3 x y z)) (now (work .entry)))) (benchOf «record» (now (rest .entry)) (now (drape .entry)) (now (pins .entry)))) ⌝ }
-    ensures { λ _. ⌜ benchOf «record» (now (rest .entry)) (now (drape .exit)) (now (pins .entry)) ≡ afterOf (call seat (stepStatic (pickOf flag vertex (vec3 x y z)) (now (work .entry)))) (benchOf «record» (now (rest .entry)) (now (drape .entry)) (now (pins .entry))) ⌝ }
-    ensures { λ _. ⌜ LeavesWork (numberOf (call seat (stepStatic (pickOf flag vertex (vec3 x y z)) (now (work .entry)))) (benchOf «record» (now (rest .entry)) (now (drape .entry)) (now (pins .entry)))) (now (work .entry)) (now (work .exit)) ⌝ }
+    ensures { λ r. ⌜ r ≡ reportOf (answerOf (callWith (now (work .entry)) seat (step (pickOf flag vertex (vec3 x y z)) still)) (benchOf «record» (now (rest .entry)) (now (drape .entry)) (now (pins .entry)))) ⌝ }
+    ensures { λ _. ⌜ benchOf «record» (now (rest .entry)) (now (drape .exit)) (now (pins .entry)) ≡ afterOf (callWith (now (work .entry)) seat (step (pickOf flag vertex (vec3 x y z)) still)) (benchOf «record» (now (rest .entry)) (now (drape .entry)) (now (pins .entry))) ⌝ }
+    ensures { λ _. ⌜ LeavesWork (numberOf (callWith (now (work .entry)) seat (step (pickOf flag vertex (vec3 x y z)) still)) (benchOf «record» (now (rest .entry)) (now (drape .entry)) (now (pins .entry)))) (now (work .entry)) (now (work .exit)) ⌝ }
 {
     let pick = picked(flag, vertex, Vec3 { x, y, z });
     let a = steps::update_static(record, rest, drape, pins, work, seat, pick);
@@ -226,9 +228,9 @@ pub extern "C" fn hairbench_step_dynamic(
     z: f64,
     dt: f64,
 ) -> Report
-    ensures { λ r. ⌜ r ≡ reportOf (answerOf (call seat (stepDynamic (pickOf flag vertex (vec3 x y z)) dt (now (work .entry)))) (benchOf «record» (now (rest .entry)) (now (drape .entry)) (now (pins .entry)))) ⌝ }
-    ensures { λ _. ⌜ benchOf «record» (now (rest .entry)) (now (drape .exit)) (now (pins .entry)) ≡ afterOf (call seat (stepDynamic (pickOf flag vertex (vec3 x y z)) dt (now (work .entry)))) (benchOf «record» (now (rest .entry)) (now (drape .entry)) (now (pins .entry))) ⌝ }
-    ensures { λ _. ⌜ LeavesWork (numberOf (call seat (stepDynamic (pickOf flag vertex (vec3 x y z)) dt (now (work .entry)))) (benchOf «record» (now (rest .entry)) (now (drape .entry)) (now (pins .entry)))) (now (work .entry)) (now (work .exit)) ⌝ }
+    ensures { λ r. ⌜ r ≡ reportOf (answerOf (callWith (now (work .entry)) seat (step (pickOf flag vertex (vec3 x y z)) (over dt))) (benchOf «record» (now (rest .entry)) (now (drape .entry)) (now (pins .entry)))) ⌝ }
+    ensures { λ _. ⌜ benchOf «record» (now (rest .entry)) (now (drape .exit)) (now (pins .entry)) ≡ afterOf (callWith (now (work .entry)) seat (step (pickOf flag vertex (vec3 x y z)) (over dt))) (benchOf «record» (now (rest .entry)) (now (drape .entry)) (now (pins .entry))) ⌝ }
+    ensures { λ _. ⌜ LeavesWork (numberOf (callWith (now (work .entry)) seat (step (pickOf flag vertex (vec3 x y z)) (over dt))) (benchOf «record» (now (rest .entry)) (now (drape .entry)) (now (pins .entry)))) (now (work .entry)) (now (work .exit)) ⌝ }
 {
     let pick = picked(flag, vertex, Vec3 { x, y, z });
     let a = steps::update_dynamic(record, rest, drape, pins, work, seat, pick, dt);

@@ -18,11 +18,10 @@ ghost use lib.ListN.{length};
 ghost use Rattle.matrix.specs.Area.{workNumbers, afterVectors};
 ghost use Rattle.matrix.specs.System.{systemAt};
 ghost use Rattle.matrix.specs.HairSystem.{stagedShape};
-ghost use Rattle.matrix.specs.Loads.{withInertia};
 ghost use Rattle.bench.specs.declared.answers.Pick.{Pick};
 ghost use Rattle.bench.specs.Areas.{restPart, drapePart, pinPart};
 ghost use Rattle.bench.specs.Given.{edgesFit};
-ghost use Rattle.bench.specs.Step.{shapeIn, predictedShape, withPicked, energyOf, pickedSystem, pickFits, Begins};
+ghost use Rattle.bench.specs.Step.{still, over, shapeIn, predictedShape, withPicked, energyOf, pickedSystem, pickFits, begunWith, Begins};
 
 // What a step knows when it has begun: the number that it is refused with, 0 for none, and the energy.
 pub(crate) struct Begun {
@@ -123,7 +122,7 @@ pub(crate) fn begin_static(
     requires { ⌜ length (now rest) ≡ restPart ⌝ }
     requires { ⌜ length (now drape) ≡ drapePart ⌝ }
     requires { ⌜ length (now work) ≡ workNumbers ⌝ }
-    ensures { λ r. ⌜ Begins n (shapeIn n (now (drape .entry))) (energyOf n settings (now (rest .entry)) (shapeIn n (now (drape .entry)))) (pickedSystem n settings (now (rest .entry)) (shapeIn n (now (drape .entry))) pick) (r .refusal) (r .energy) (now (work .exit)) ⌝ }
+    ensures { λ r. ⌜ Begins n (begunWith still n settings (now (rest .entry)) pick (shapeIn n (now (drape .entry)))) (r .refusal) (r .energy) (now (work .exit)) ⌝ }
 {
     stage_drape(work, drape, n);
     if !staged_edges_fit(&work[..], n) {
@@ -156,7 +155,7 @@ pub(crate) fn begin_dynamic(
     requires { ⌜ length (now drape) ≡ drapePart ⌝ }
     requires { ⌜ length (now pins) ≡ pinPart ⌝ }
     requires { ⌜ length (now work) ≡ workNumbers ⌝ }
-    ensures { λ r. ⌜ Begins n (predictedShape dt n (now (pins .entry)) (now (drape .entry))) (energyOf n settings (now (rest .entry)) (predictedShape dt n (now (pins .entry)) (now (drape .entry)))) (withInertia n dt (pickedSystem n settings (now (rest .entry)) (predictedShape dt n (now (pins .entry)) (now (drape .entry))) pick)) (r .refusal) (r .energy) (now (work .exit)) ⌝ }
+    ensures { λ r. ⌜ Begins n (begunWith (over dt) n settings (now (rest .entry)) pick (predictedShape dt n (now (pins .entry)) (now (drape .entry)))) (r .refusal) (r .energy) (now (work .exit)) ⌝ }
 {
     stage_prediction(work, drape, pins, n, dt);
     if !staged_edges_fit(&work[..], n) {

@@ -9,7 +9,6 @@ use crate::velocities;
 use matrix::area;
 use matrix::conjugate_gradient::Solve;
 ghost use mathlib.Core.Path.{_≡_};
-ghost use mathlib.Core.List.{List};
 ghost use Prim.Native.Nat.{_*_, _≤_};
 ghost use lib.ListN.{length};
 ghost use lib.Ieee.{Float};
@@ -18,11 +17,10 @@ ghost use Rattle.matrix.specs.Rows.{rows3, rows4, flat3};
 ghost use Rattle.matrix.specs.Area.{placeU, placePositions, placeVelocities, workNumbers};
 ghost use Rattle.matrix.specs.HairSystem.{stagedShape};
 ghost use Rattle.matrix.specs.ConjugateGradient.{outcome};
-ghost use Rattle.bench.specs.declared.seats.Settings.{Settings};
 ghost use Rattle.bench.specs.Areas.{drapePart, pinPart};
-ghost use Rattle.bench.specs.Strand.{strand};
-ghost use Rattle.bench.specs.Verdicts.{reported};
-ghost use Rattle.bench.specs.Step.{drapeIsFinite, finished, velocitiesAfter, dynamicDrape, reportBy, drapeBy};
+ghost use Rattle.bench.specs.Rows.{first};
+ghost use Rattle.bench.specs.Update.{updateSolutionHair};
+ghost use Rattle.bench.specs.Step.{drapeIsFinite, finishRows, velocitiesAfter, dynamicDrape, reportBy, drapeBy};
 
 // Whether 11 does not decline what a dynamic step would leave; its velocities are staged.
 fn dynamic_is_finite(work: &[f64], drape: &[f64], pins: &[u8], n: usize) -> bool
@@ -90,8 +88,8 @@ pub(crate) fn finish_dynamic(
     requires { ⌜ length (now drape) ≡ drapePart ⌝ }
     requires { ⌜ length (now pins) ≡ pinPart ⌝ }
     requires { ⌜ length (now work) ≡ workNumbers ⌝ }
-    ensures { λ r. ⌜ ((g : Settings) (rest : List Float) → reported r ≡ reportBy (finished (strand n g rest (now (drape .entry)) (now (pins .entry))) (stagedShape n (now (work .entry))) (dynamicDrape dt n (now (pins .entry)) (now (drape .entry))) energy (outcome (rows4 (now (work .entry)) placeU n) (s .count) (s .ratio)))) ⌝ }
-    ensures { λ _. ⌜ ((g : Settings) (rest : List Float) → now (drape .exit) ≡ drapeBy (now (drape .entry)) (finished (strand n g rest (now (drape .entry)) (now (pins .entry))) (stagedShape n (now (work .entry))) (dynamicDrape dt n (now (pins .entry)) (now (drape .entry))) energy (outcome (rows4 (now (work .entry)) placeU n) (s .count) (s .ratio)))) ⌝ }
+    ensures { λ r. ⌜ r ≡ reportBy (first (finishRows n (now (pins .entry)) (stagedShape n (now (work .entry))) (outcome (rows4 (now (work .entry)) placeU n) (s .count) (s .ratio)) (dynamicDrape dt n (now (pins .entry)) (now (drape .entry)) (updateSolutionHair n (now (pins .entry)) (stagedShape n (now (work .entry))) (rows4 (now (work .entry)) placeU n))))) energy (s .ratio) (s .count) ⌝ }
+    ensures { λ _. ⌜ now (drape .exit) ≡ drapeBy (first (finishRows n (now (pins .entry)) (stagedShape n (now (work .entry))) (outcome (rows4 (now (work .entry)) placeU n) (s .count) (s .ratio)) (dynamicDrape dt n (now (pins .entry)) (now (drape .entry)) (updateSolutionHair n (now (pins .entry)) (stagedShape n (now (work .entry))) (rows4 (now (work .entry)) placeU n))))) (now (drape .entry)) (dynamicDrape dt n (now (pins .entry)) (now (drape .entry)) (updateSolutionHair n (now (pins .entry)) (stagedShape n (now (work .entry))) (rows4 (now (work .entry)) placeU n))) ⌝ }
 {
     let ratio = s.ratio;
     if !finish::solution_is_finite(&work[..], n, ratio) {

@@ -7,19 +7,16 @@ use crate::step::finish;
 use matrix::area;
 use matrix::conjugate_gradient::Solve;
 ghost use mathlib.Core.Path.{_≡_};
-ghost use mathlib.Core.List.{List};
 ghost use Prim.Native.Nat.{_*_, _≤_};
 ghost use lib.ListN.{length};
-ghost use lib.Ieee.{Float};
 ghost use Rattle.matrix.specs.Rows.{rows4};
 ghost use Rattle.matrix.specs.Area.{placeU, workNumbers};
 ghost use Rattle.matrix.specs.HairSystem.{stagedShape};
 ghost use Rattle.matrix.specs.ConjugateGradient.{outcome};
-ghost use Rattle.bench.specs.declared.seats.Settings.{Settings};
 ghost use Rattle.bench.specs.Areas.{drapePart, pinPart};
-ghost use Rattle.bench.specs.Strand.{strand};
-ghost use Rattle.bench.specs.Verdicts.{reported};
-ghost use Rattle.bench.specs.Step.{drapeIsFinite, finished, staticDrape, reportBy, drapeBy};
+ghost use Rattle.bench.specs.Rows.{first};
+ghost use Rattle.bench.specs.Update.{updateSolutionHair};
+ghost use Rattle.bench.specs.Step.{drapeIsFinite, finishRows, staticDrape, reportBy, drapeBy};
 
 // Whether 11 does not decline what a static step would leave: the velocities are the drape's.
 fn static_is_finite(work: &[f64], drape: &[f64], n: usize) -> bool
@@ -59,8 +56,8 @@ pub(crate) fn finish_static(
     requires { ⌜ length (now drape) ≡ drapePart ⌝ }
     requires { ⌜ length (now pins) ≡ pinPart ⌝ }
     requires { ⌜ length (now work) ≡ workNumbers ⌝ }
-    ensures { λ r. ⌜ ((g : Settings) (rest : List Float) → reported r ≡ reportBy (finished (strand n g rest (now (drape .entry)) (now (pins .entry))) (stagedShape n (now (work .entry))) (staticDrape (now (drape .entry))) energy (outcome (rows4 (now (work .entry)) placeU n) (s .count) (s .ratio)))) ⌝ }
-    ensures { λ _. ⌜ ((g : Settings) (rest : List Float) → now (drape .exit) ≡ drapeBy (now (drape .entry)) (finished (strand n g rest (now (drape .entry)) (now (pins .entry))) (stagedShape n (now (work .entry))) (staticDrape (now (drape .entry))) energy (outcome (rows4 (now (work .entry)) placeU n) (s .count) (s .ratio)))) ⌝ }
+    ensures { λ r. ⌜ r ≡ reportBy (first (finishRows n (now (pins .entry)) (stagedShape n (now (work .entry))) (outcome (rows4 (now (work .entry)) placeU n) (s .count) (s .ratio)) (staticDrape (now (drape .entry)) (updateSolutionHair n (now (pins .entry)) (stagedShape n (now (work .entry))) (rows4 (now (work .entry)) placeU n))))) energy (s .ratio) (s .count) ⌝ }
+    ensures { λ _. ⌜ now (drape .exit) ≡ drapeBy (first (finishRows n (now (pins .entry)) (stagedShape n (now (work .entry))) (outcome (rows4 (now (work .entry)) placeU n) (s .count) (s .ratio)) (staticDrape (now (drape .entry)) (updateSolutionHair n (now (pins .entry)) (stagedShape n (now (work .entry))) (rows4 (now (work .entry)) placeU n))))) (now (drape .entry)) (staticDrape (now (drape .entry)) (updateSolutionHair n (now (pins .entry)) (stagedShape n (now (work .entry))) (rows4 (now (work .entry)) placeU n))) ⌝ }
 {
     let ratio = s.ratio;
     if !finish::solution_is_finite(&work[..], n, ratio) {

@@ -1,6 +1,6 @@
 -- By the two cases of a step's answer.
 use borrow.Author.Needs.{needs}
-use Rattle.bench.specs.StepNumbers.{stepNumbers}
+use Rattle.bench.specs.Answers.{stepNumbers}
 use Rattle.bench_c.proofs.told.Statement.{statement}
 use Rattle.bench_c.proofs.told.Tie as tie
 

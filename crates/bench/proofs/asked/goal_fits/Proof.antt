@@ -1,6 +1,6 @@
 -- By the two cases of a pick.
 use borrow.Author.Needs.{needs}
-use Rattle.bench.specs.Calls.{goalFits}
+use Rattle.bench.specs.Step.{goalFits}
 use Rattle.bench.proofs.asked.goal_fits.Statement.{statement}
 use Rattle.bench.proofs.asked.goal_fits.Tie as tie
 

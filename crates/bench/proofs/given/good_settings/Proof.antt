@@ -1,5 +1,7 @@
--- The five tests.
+-- The five tests, grouped from the left; the definition groups them from the right and ends with true.
 use borrow.Author.Needs.{needs}
+use mathlib.Core.Bool.{and-true, and-assoc}
+use Rattle.matrix.specs.System.{every}
 use Rattle.bench.specs.Given.{goodSettings}
 use Rattle.bench.proofs.given.good_settings.Statement.{statement}
 use Rattle.bench.proofs.given.good_settings.Tie as tie
@@ -20,8 +22,8 @@ not-negative-requires-5 : tie.Need-not-negative-requires-5
 not-negative-requires-5 c κs = search needs
 
 returns : tie.Need-returns
-unfolding goodSettings
-returns c = simp (c .before .before .before .before .not-negative .ensures, c .before .before .before .not-negative2 .ensures, c .before .before .not-negative3 .ensures, c .before .not-negative4 .ensures, c .not-negative5 .ensures)
+unfolding goodSettings every
+returns c = simp (c .before .before .before .before .not-negative .ensures, c .before .before .before .not-negative2 .ensures, c .before .before .not-negative3 .ensures, c .before .not-negative4 .ensures, c .not-negative5 .ensures, and-true, and-assoc)
 
 pub good-settings-spec : {M : Type 1} → statement M
 good-settings-spec =

@@ -2,7 +2,7 @@
 use borrow.Author.Needs.{needs}
 use mathlib.Core.Path.{sym}
 use Rattle.matrix.proofs.Parts.{put-append}
-use Rattle.bench.specs.Calls.{padded}
+use Rattle.bench.specs.Requests.{padded}
 use Rattle.bench.proofs.parts.fill.Statement.{statement}
 use Rattle.bench.proofs.parts.fill.Tie as tie
 

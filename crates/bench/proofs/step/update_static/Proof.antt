@@ -1,8 +1,9 @@
 -- The parts are put together; a step that does not begin leaves the drape.
 use borrow.Author.Needs.{needs}
+use mathlib.Core.Path.{_∙_}
 use Rattle.bench.specs.Strand.{strand}
-use Rattle.bench.specs.Step.{shapeIn, energyOf, pickedSystem, stepped, staticDrape, updateStatic}
-use Rattle.bench.proofs.Composed.{composed-declined, composed-on}
+use Rattle.bench.specs.Step.{still, shapeBy, drapeAfter}
+use Rattle.bench.proofs.Composed.{report-declined, drape-declined, report-on, drape-on}
 use Rattle.bench.proofs.step.update_static.Statement.{statement}
 use Rattle.bench.proofs.step.update_static.Tie as tie
 
@@ -16,13 +17,12 @@ same-length-2 : tie.Need-same-length-2
 same-length-2 c = search needs
 
 returns : tie.Need-returns
-unfolding stepped updateStatic
+unfolding shapeBy drapeAfter
 returns c =
     let a = c .before .before .before .before .before .before .before .before .before .before .before .args in
     let t = strand (a .n) (a .settings) (a .rest .now) (a .drape .now) (a .pins .now) in
     let b = c .before .before .before .before .begin-static .ensures in
-    let e = composed-declined t (shapeIn (a .n) (a .drape .now)) (energyOf (a .n) (a .settings) (a .rest .now) (shapeIn (a .n) (a .drape .now))) (pickedSystem (a .n) (a .settings) (a .rest .now) (shapeIn (a .n) (a .drape .now)) (a .pick)) (staticDrape (a .drape .now)) _ _ _ b (c .if1 .taken) in
-    (rw e, rw e)
+    (report-declined t (a .pick) still _ _ _ b (c .if1 .taken), drape-declined t (a .pick) still _ _ _ b (c .if1 .taken))
 
 solve-requires : tie.Need-solve-requires
 solve-requires c κs = search needs
@@ -37,15 +37,15 @@ same-length-4 : tie.Need-same-length-4
 same-length-4 c = search needs
 
 returns-2 : tie.Need-returns-2
-unfolding stepped updateStatic
+unfolding shapeBy drapeAfter
 returns-2 c =
     let a = c .before .before .before .before .before .before .before .before .before .before .before .before .before .before .before .before .before .before .before .before .before .before .args in
     let t = strand (a .n) (a .settings) (a .rest .now) (a .drape .now) (a .pins .now) in
     let b = c .before .before .before .before .before .before .before .before .before .before .before .before .before .before .before .begin-static .ensures in
     let s = c .before .before .before .before .before .before .before .before .before .solve .ensures in
     let f = c .before .before .before .before .finish-static .ensures in
-    let e = composed-on t (shapeIn (a .n) (a .drape .now)) (energyOf (a .n) (a .settings) (a .rest .now) (shapeIn (a .n) (a .drape .now))) (pickedSystem (a .n) (a .settings) (a .rest .now) (shapeIn (a .n) (a .drape .now)) (a .pick)) (staticDrape (a .drape .now)) _ _ _ b (c .before .before .before .before .before .before .before .before .before .before .before .if1 .left) _ _ (s .1) (s .0) in
-    (rw e (f .0 (a .settings) (a .rest .now)), rw e (f .1 (a .settings) (a .rest .now)))
+    let z = c .before .before .before .before .before .before .before .before .before .before .before .if1 .left in
+    (f .0 ∙ report-on t (a .pick) still _ _ _ b z _ _ (s .1) (s .0), f .1 ∙ drape-on t (a .pick) still _ _ _ b z _ _ (s .1) (s .0))
 
 pub update-static-spec : {M : Type 1} → statement M
 update-static-spec =

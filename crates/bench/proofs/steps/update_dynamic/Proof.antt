@@ -1,20 +1,12 @@
 -- Refused before its strand is looked at, it leaves everything; else it answers and leaves what the step of the strand does.
 use borrow.Author.Needs.{needs}
-use mathlib.Core.Path.{sym, ap, _∙_}
-use mathlib.Core.Bool.{_&&_}
-use Prim.Native.Nat.{ℕ}
+use mathlib.Core.Path.{sym, _∙_}
 use native.Mathlib.Omega.{arith}
 use Rattle.bench.specs.Strand.{strandOf, benchOf}
-use Rattle.bench.specs.Verdicts.{declineBy}
-use Rattle.bench.specs.Step.{updateDynamic}
-use Rattle.bench.specs.Calls.{stepDynamic, call, goalFits, timeFits}
-use Rattle.bench.proofs.StepVerdicts.{dynamic-verdict}
-use Rattle.bench.proofs.StepCalls.{dynamic-asked, dynamic-report, steps, step-refused, step-done}
+use Rattle.bench.specs.Step.{over}
+use Rattle.bench.proofs.StepCalls.{steps, step-refused, step-done}
 use Rattle.bench.proofs.steps.update_dynamic.Statement.{statement}
 use Rattle.bench.proofs.steps.update_dynamic.Tie as tie
-
-goal-fits-requires : tie.Need-goal-fits-requires
-goal-fits-requires c κs = search needs
 
 time-fits-requires : tie.Need-time-fits-requires
 time-fits-requires c κs = search needs
@@ -30,44 +22,38 @@ same-length-2 c = search needs
 
 returns : tie.Need-returns
 returns c =
-    let a = c .before .before .before .before .before .before .before .before .before .before .args in
-    let k = rw (c .before .before .before .before .before .goal-fits .ensures, c .before .before .before .before .time-fits .ensures) at (c .before .step-number .ensures) in
-    step-refused (call (a .seat) (stepDynamic (a .pick) (a .dt) (a .work .now))) (benchOf (a .seats) (a .rest .now) (a .drape .now) (a .pins .now)) (updateDynamic (strandOf (a .seat) (benchOf (a .seats) (a .rest .now) (a .drape .now) (a .pins .now))) (a .pick) (a .dt)) (dynamic-verdict (strandOf (a .seat) (benchOf (a .seats) (a .rest .now) (a .drape .now) (a .pins .now))) (a .pick) (a .dt)) _ (dynamic-asked (a .work .now) (a .seat) (a .pick) (benchOf (a .seats) (a .rest .now) (a .drape .now) (a .pins .now)) (a .dt) ∙ ap (λ (j : ℕ). declineBy j (updateDynamic (strandOf (a .seat) (benchOf (a .seats) (a .rest .now) (a .drape .now) (a .pins .now))) (a .pick) (a .dt))) (sym k)) (dynamic-report (a .pick) (a .dt) (a .work .now)) (c .if1 .taken) (a .work .now)
+    let a = c .before .before .before .before .before .before .before .before .before .args in
+    step-refused (a .work .now) (a .seat) (a .pick) (over (a .dt)) (benchOf (a .seats) (a .rest .now) (a .drape .now) (a .pins .now)) _ (c .before .step-number .ensures (over (a .dt)) (c .before .before .before .before .time-fits .ensures)) (c .if1 .taken) (a .work .now)
 
 mul-dynamic-on : tie.Need-mul-dynamic-on
 mul-dynamic-on c =
-    let a = c .before .before .before .before .before .before .before .before .before .before .before .before .before .before .args in
-    let k = rw (c .before .before .before .before .before .before .before .before .before .goal-fits .ensures, c .before .before .before .before .before .before .before .before .time-fits .ensures) at (c .before .before .before .before .before .step-number .ensures) in
-    let p = steps (a .work .now) (goalFits (a .pick) && timeFits (a .dt)) (a .seat) (a .pick) (benchOf (a .seats) (a .rest .now) (a .drape .now) (a .pins .now)) (sym k ∙ c .before .before .before .before .if1 .left) in
+    let a = c .before .before .before .before .before .before .before .before .before .before .before .before .before .args in
+    let p = steps (a .work .now) (a .seat) (a .pick) (over (a .dt)) (benchOf (a .seats) (a .rest .now) (a .drape .now) (a .pins .now)) (sym (c .before .before .before .before .before .step-number .ensures (over (a .dt)) (c .before .before .before .before .before .before .before .before .time-fits .ensures)) ∙ c .before .before .before .before .if1 .left) in
     omega (arith, p .seat)
 
 array-read-dynamic-on : tie.Need-array-read-dynamic-on
 array-read-dynamic-on c =
-    let a = c .before .before .before .before .before .before .before .before .before .before .before .before .before .before .args in
-    let k = rw (c .before .before .before .before .before .before .before .before .before .goal-fits .ensures, c .before .before .before .before .before .before .before .before .time-fits .ensures) at (c .before .before .before .before .before .step-number .ensures) in
-    let p = steps (a .work .now) (goalFits (a .pick) && timeFits (a .dt)) (a .seat) (a .pick) (benchOf (a .seats) (a .rest .now) (a .drape .now) (a .pins .now)) (sym k ∙ c .before .before .before .before .if1 .left) in
+    let a = c .before .before .before .before .before .before .before .before .before .before .before .before .before .args in
+    let p = steps (a .work .now) (a .seat) (a .pick) (over (a .dt)) (benchOf (a .seats) (a .rest .now) (a .drape .now) (a .pins .now)) (sym (c .before .before .before .before .before .step-number .ensures (over (a .dt)) (c .before .before .before .before .before .before .before .before .time-fits .ensures)) ∙ c .before .before .before .before .if1 .left) in
     omega (arith, p .seat)
 
 mul-dynamic-on-2 : tie.Need-mul-dynamic-on-2
 mul-dynamic-on-2 c =
-    let a = c .before .before .before .before .before .before .before .before .before .before .before .before .before .before .args in
-    let k = rw (c .before .before .before .before .before .before .before .before .before .goal-fits .ensures, c .before .before .before .before .before .before .before .before .time-fits .ensures) at (c .before .before .before .before .before .step-number .ensures) in
-    let p = steps (a .work .now) (goalFits (a .pick) && timeFits (a .dt)) (a .seat) (a .pick) (benchOf (a .seats) (a .rest .now) (a .drape .now) (a .pins .now)) (sym k ∙ c .before .before .before .before .if1 .left) in
+    let a = c .before .before .before .before .before .before .before .before .before .before .before .before .before .args in
+    let p = steps (a .work .now) (a .seat) (a .pick) (over (a .dt)) (benchOf (a .seats) (a .rest .now) (a .drape .now) (a .pins .now)) (sym (c .before .before .before .before .before .step-number .ensures (over (a .dt)) (c .before .before .before .before .before .before .before .before .time-fits .ensures)) ∙ c .before .before .before .before .if1 .left) in
     omega (arith, p .seat)
 
 array-copy-out-dynamic-on : tie.Need-array-copy-out-dynamic-on
 array-copy-out-dynamic-on c =
-    let a = c .before .before .before .before .before .before .before .before .before .before .before .before .before .before .args in
-    let k = rw (c .before .before .before .before .before .before .before .before .before .goal-fits .ensures, c .before .before .before .before .before .before .before .before .time-fits .ensures) at (c .before .before .before .before .before .step-number .ensures) in
-    let p = steps (a .work .now) (goalFits (a .pick) && timeFits (a .dt)) (a .seat) (a .pick) (benchOf (a .seats) (a .rest .now) (a .drape .now) (a .pins .now)) (sym k ∙ c .before .before .before .before .if1 .left) in
+    let a = c .before .before .before .before .before .before .before .before .before .before .before .before .before .args in
+    let p = steps (a .work .now) (a .seat) (a .pick) (over (a .dt)) (benchOf (a .seats) (a .rest .now) (a .drape .now) (a .pins .now)) (sym (c .before .before .before .before .before .step-number .ensures (over (a .dt)) (c .before .before .before .before .before .before .before .before .time-fits .ensures)) ∙ c .before .before .before .before .if1 .left) in
     omega (arith, p .seat)
 
 dynamic-on-requires : tie.Need-dynamic-on-requires
 dynamic-on-requires c κs =
-    let a = c .before .before .before .before .before .before .before .before .before .before .before .before .before .before .before .args in
-    let k = rw (c .before .before .before .before .before .before .before .before .before .before .goal-fits .ensures, c .before .before .before .before .before .before .before .before .before .time-fits .ensures) at (c .before .before .before .before .before .before .step-number .ensures) in
-    let p = steps (a .work .now) (goalFits (a .pick) && timeFits (a .dt)) (a .seat) (a .pick) (benchOf (a .seats) (a .rest .now) (a .drape .now) (a .pins .now)) (sym k ∙ c .before .before .before .before .before .if1 .left) in
-    (p .seat, (p .count, (p .pick, (p .long .rest, (p .long .drape, (p .long .pins, p .work))))))
+    let a = c .before .before .before .before .before .before .before .before .before .before .before .before .before .before .args in
+    let p = steps (a .work .now) (a .seat) (a .pick) (over (a .dt)) (benchOf (a .seats) (a .rest .now) (a .drape .now) (a .pins .now)) (sym (c .before .before .before .before .before .before .step-number .ensures (over (a .dt)) (c .before .before .before .before .before .before .before .before .before .time-fits .ensures)) ∙ c .before .before .before .before .before .if1 .left) in
+    (p .seat, (p .count, (p .pick, (p .rest, (p .drape, (p .pins, p .work))))))
 
 same-length-3 : tie.Need-same-length-3
 same-length-3 c = search needs
@@ -78,16 +64,14 @@ same-length-4 c = search needs
 returns-2 : tie.Need-returns-2
 unfolding strandOf
 returns-2 c =
-    let a = c .before .before .before .before .before .before .before .before .before .before .before .before .before .before .before .before .before .before .before .before .args in
-    let k = rw (c .before .before .before .before .before .before .before .before .before .before .before .before .before .before .before .goal-fits .ensures, c .before .before .before .before .before .before .before .before .before .before .before .before .before .before .time-fits .ensures) at (c .before .before .before .before .before .before .before .before .before .before .before .step-number .ensures) in
+    let a = c .before .before .before .before .before .before .before .before .before .before .before .before .before .before .before .before .before .before .before .args in
     let e = c .before .before .before .before .dynamic-on .ensures in
-    step-done (call (a .seat) (stepDynamic (a .pick) (a .dt) (a .work .now))) (benchOf (a .seats) (a .rest .now) (a .drape .now) (a .pins .now)) (updateDynamic (strandOf (a .seat) (benchOf (a .seats) (a .rest .now) (a .drape .now) (a .pins .now))) (a .pick) (a .dt)) (dynamic-verdict (strandOf (a .seat) (benchOf (a .seats) (a .rest .now) (a .drape .now) (a .pins .now))) (a .pick) (a .dt)) _ (dynamic-asked (a .work .now) (a .seat) (a .pick) (benchOf (a .seats) (a .rest .now) (a .drape .now) (a .pins .now)) (a .dt) ∙ ap (λ (j : ℕ). declineBy j (updateDynamic (strandOf (a .seat) (benchOf (a .seats) (a .rest .now) (a .drape .now) (a .pins .now))) (a .pick) (a .dt))) (sym k)) (dynamic-report (a .pick) (a .dt) (a .work .now)) (c .before .before .before .before .before .before .before .before .before .before .if1 .left) _ _ (a .work .now) _ (e .0) (e .1)
+    step-done (a .work .now) (a .seat) (a .pick) (over (a .dt)) (benchOf (a .seats) (a .rest .now) (a .drape .now) (a .pins .now)) (sym (c .before .before .before .before .before .before .before .before .before .before .before .step-number .ensures (over (a .dt)) (c .before .before .before .before .before .before .before .before .before .before .before .before .before .before .time-fits .ensures)) ∙ c .before .before .before .before .before .before .before .before .before .before .if1 .left) _ _ (a .work .now) _ (e .0) (e .1)
 
 pub update-dynamic-spec : {M : Type 1} → statement M
 update-dynamic-spec =
     tie.close
     (tie.spec
-    goal-fits-requires
     time-fits-requires
     step-number-requires
     same-length

@@ -1,10 +1,10 @@
 -- A refused call leaves everything; an accepted one leaves the empty strand.
 use borrow.Author.Needs.{needs}
 use mathlib.Core.Path.{refl}
-use Rattle.bench.specs.Strand.{putStrand, benchOf}
-use Rattle.bench.specs.Calls.{unload, call, emptyStrand}
-use Rattle.bench.proofs.Entered.{call-declined, call-done}
-use Rattle.bench.proofs.UnloadTable.{unloads}
+use Rattle.bench.specs.Strand.{putStrand, putAll}
+use Rattle.bench.specs.Requests.{emptied, caseAt}
+use Rattle.bench.specs.Calls.{caseOf}
+use Rattle.bench.proofs.Entered.{call-declined, call-done, entered}
 use Rattle.bench.proofs.unload.unload_value.Statement.{statement}
 use Rattle.bench.proofs.unload.unload_value.Tie as tie
 
@@ -21,16 +21,18 @@ same-length-3 : tie.Need-same-length-3
 same-length-3 c = search needs
 
 returns : tie.Need-returns
-returns c = let a = c .before .before .before .before .before .before .before .before .args in call-declined (call (a .seat) unload) (benchOf (a .seats) (a .rest .now) (a .drape .now) (a .pins .now)) _ refl (c .before .unload-number .ensures) (c .if1 .taken)
+returns c = call-declined _ _ _ (c .before .unload-number .ensures) (c .if1 .taken)
 
 clear-requires : tie.Need-clear-requires
-clear-requires c κs = let a = c .before .before .before .before .before .before .before .before .before .before .before .args in let p = unloads (a .seats) (a .rest .now) (a .drape .now) (a .pins .now) (a .seat) _ (c .before .before .before .before .unload-number .ensures) (c .before .before .before .if1 .left) in (p .seat, (p .long .rest, (p .long .drape, p .long .pins)))
+clear-requires c κs =
+    let h = entered _ _ _ _ _ (c .before .before .before .before .unload-number .ensures) (c .before .before .before .if1 .left) in
+    (h .seat, (h .areas .rest refl, (h .areas .drape refl, h .areas .pins refl)))
 
 zero-requires : tie.Need-zero-requires
 zero-requires c κs = search needs
 
 seated-requires : tie.Need-seated-requires
-seated-requires c κs = let a = c .before .before .before .before .before .before .before .before .before .before .before .before .before .before .before .before .before .before .before .args in let p = unloads (a .seats) (a .rest .now) (a .drape .now) (a .pins .now) (a .seat) _ (c .before .before .before .before .before .before .before .before .before .before .before .before .unload-number .ensures) (c .before .before .before .before .before .before .before .before .before .before .before .if1 .left) in p .seat
+seated-requires c κs = entered _ _ _ _ _ (c .before .before .before .before .before .before .before .before .before .before .before .before .unload-number .ensures) (c .before .before .before .before .before .before .before .before .before .before .before .if1 .left) .seat
 
 same-length-4 : tie.Need-same-length-4
 same-length-4 c = search needs
@@ -42,10 +44,9 @@ same-length-6 : tie.Need-same-length-6
 same-length-6 c = search needs
 
 returns-2 : tie.Need-returns-2
-unfolding putStrand emptyStrand
+unfolding caseOf caseAt putAll putStrand emptied
 returns-2 c =
-    let a = c .before .before .before .before .before .before .before .before .before .before .before .before .before .before .before .before .before .before .before .before .args in let p = unloads (a .seats) (a .rest .now) (a .drape .now) (a .pins .now) (a .seat) _ (c .before .before .before .before .before .before .before .before .before .before .before .before .before .unload-number .ensures) (c .before .before .before .before .before .before .before .before .before .before .before .before .if1 .left) in
-    let q = call-done (call (a .seat) unload) (benchOf (a .seats) (a .rest .now) (a .drape .now) (a .pins .now)) _ _ (p .is) in
+    let q = call-done _ _ _ (c .before .before .before .before .before .before .before .before .before .before .before .before .before .unload-number .ensures) (c .before .before .before .before .before .before .before .before .before .before .before .before .if1 .left) in
     let w = c .before .before .before .before .before .before .before .before .clear .ensures in
     (q .0, rw (w .0, w .1 .0, w .1 .1, c .seated .ensures, c .before .zero .ensures) (q .1))
 

@@ -7,7 +7,7 @@ use borrow.Author.Tests.{not-true, not-false}
 use Rattle.matrix.specs.Loads.{withInertia}
 use Rattle.matrix.proofs.Shapes.{shape-kept}
 use Rattle.bench.specs.Given.{edgesFit}
-use Rattle.bench.specs.Step.{predictedShape, energyOf, pickedSystem}
+use Rattle.bench.specs.Step.{over, predictedShape, energyOf, pickedSystem, timed, begunWith}
 use Rattle.bench.proofs.Beginning.{begins-seven, begins-eight, begins-well}
 use Rattle.bench.proofs.step.begin.begin_dynamic.Statement.{statement}
 use Rattle.bench.proofs.step.begin.begin_dynamic.Tie as tie
@@ -22,10 +22,12 @@ same-length : tie.Need-same-length
 same-length c = search needs
 
 returns : tie.Need-returns
+unfolding begunWith timed
 returns c =
     let a = c .before .before .before .before .before .before .before .before .before .before .before .args in
+    let b = begunWith (over (a .dt)) (a .n) (a .settings) (a .rest .now) (a .pick) (predictedShape (a .dt) (a .n) (a .pins .now) (a .drape .now)) in
     let h = c .before .before .before .before .before .stage-prediction .ensures in
-    begins-seven (a .n) (predictedShape (a .dt) (a .n) (a .pins .now) (a .drape .now)) (energyOf (a .n) (a .settings) (a .rest .now) (predictedShape (a .dt) (a .n) (a .pins .now) (a .drape .now))) (withInertia (a .n) (a .dt) (pickedSystem (a .n) (a .settings) (a .rest .now) (predictedShape (a .dt) (a .n) (a .pins .now) (a .drape .now)) (a .pick))) _ _ h (not-true (edgesFit (a .n) ((predictedShape (a .dt) (a .n) (a .pins .now) (a .drape .now)) .positions)) (rw (c .before .staged-edges-fit .ensures, h) at (c .if1 .taken)))
+    begins-seven (a .n) b _ _ h (not-true (edgesFit (a .n) (b .now .positions)) (rw (c .before .staged-edges-fit .ensures, h) at (c .if1 .taken)))
 
 assemble-requires : tie.Need-assemble-requires
 assemble-requires c κs = let p = c .before .before .before .before .before .before .before .before .before .before .before .before .pre in (p .0, (p .1 .0, search needs))
@@ -40,31 +42,35 @@ same-length-2 : tie.Need-same-length-2
 same-length-2 c = search needs
 
 returns-2 : tie.Need-returns-2
+unfolding begunWith timed
 returns-2 c =
     let a = c .before .before .before .before .before .before .before .before .before .before .before .before .before .before .before .before .before .before .before .before .before .before .args in
+    let b = begunWith (over (a .dt)) (a .n) (a .settings) (a .rest .now) (a .pick) (predictedShape (a .dt) (a .n) (a .pins .now) (a .drape .now)) in
     let h = c .before .before .before .before .before .before .before .before .before .before .before .before .before .before .before .before .stage-prediction .ensures in
     let e = c .before .before .before .before .before .before .before .before .before .assemble .ensures in
     let i = c .before .before .before .before .before .add-inertia .ensures in
     let s = i .0 ∙ ap (withInertia (a .n) (a .dt)) (e .1 .0 ∙ ap (λ (s : Shape). pickedSystem (a .n) (a .settings) (a .rest .now) s (a .pick)) h) in
     let x = e .0 ∙ ap (energyOf (a .n) (a .settings) (a .rest .now)) h in
     let k = shape-kept _ _ (i .1 ∙ e .1 .1) (a .n) ∙ h in
-    let f = not-false (edgesFit (a .n) ((predictedShape (a .dt) (a .n) (a .pins .now) (a .drape .now)) .positions)) (rw (c .before .before .before .before .before .before .before .before .before .before .before .before .staged-edges-fit .ensures, h) at (c .before .before .before .before .before .before .before .before .before .before .before .if1 .left)) in
-    begins-eight (a .n) (predictedShape (a .dt) (a .n) (a .pins .now) (a .drape .now)) (energyOf (a .n) (a .settings) (a .rest .now) (predictedShape (a .dt) (a .n) (a .pins .now) (a .drape .now))) (withInertia (a .n) (a .dt) (pickedSystem (a .n) (a .settings) (a .rest .now) (predictedShape (a .dt) (a .n) (a .pins .now) (a .drape .now)) (a .pick))) _ _ k f (not-true (systemIsFinite (energyOf (a .n) (a .settings) (a .rest .now) (predictedShape (a .dt) (a .n) (a .pins .now) (a .drape .now))) (withInertia (a .n) (a .dt) (pickedSystem (a .n) (a .settings) (a .rest .now) (predictedShape (a .dt) (a .n) (a .pins .now) (a .drape .now)) (a .pick)))) (rw (c .before .is-finite .ensures, s, x) at (c .if2 .taken)))
+    let f = not-false (edgesFit (a .n) (b .now .positions)) (rw (c .before .before .before .before .before .before .before .before .before .before .before .before .staged-edges-fit .ensures, h) at (c .before .before .before .before .before .before .before .before .before .before .before .if1 .left)) in
+    begins-eight (a .n) b _ _ k f (not-true (systemIsFinite (b .energy) (b .system)) (rw (c .before .is-finite .ensures, s, x) at (c .if2 .taken)))
 
 same-length-3 : tie.Need-same-length-3
 same-length-3 c = search needs
 
 returns-3 : tie.Need-returns-3
+unfolding begunWith timed
 returns-3 c =
     let a = c .before .before .before .before .before .before .before .before .before .before .before .before .before .before .before .before .before .before .before .before .before .before .args in
+    let b = begunWith (over (a .dt)) (a .n) (a .settings) (a .rest .now) (a .pick) (predictedShape (a .dt) (a .n) (a .pins .now) (a .drape .now)) in
     let h = c .before .before .before .before .before .before .before .before .before .before .before .before .before .before .before .before .stage-prediction .ensures in
     let e = c .before .before .before .before .before .before .before .before .before .assemble .ensures in
     let i = c .before .before .before .before .before .add-inertia .ensures in
     let s = i .0 ∙ ap (withInertia (a .n) (a .dt)) (e .1 .0 ∙ ap (λ (s : Shape). pickedSystem (a .n) (a .settings) (a .rest .now) s (a .pick)) h) in
     let x = e .0 ∙ ap (energyOf (a .n) (a .settings) (a .rest .now)) h in
     let k = shape-kept _ _ (i .1 ∙ e .1 .1) (a .n) ∙ h in
-    let f = not-false (edgesFit (a .n) ((predictedShape (a .dt) (a .n) (a .pins .now) (a .drape .now)) .positions)) (rw (c .before .before .before .before .before .before .before .before .before .before .before .before .staged-edges-fit .ensures, h) at (c .before .before .before .before .before .before .before .before .before .before .before .if1 .left)) in
-    begins-well (a .n) (predictedShape (a .dt) (a .n) (a .pins .now) (a .drape .now)) (energyOf (a .n) (a .settings) (a .rest .now) (predictedShape (a .dt) (a .n) (a .pins .now) (a .drape .now))) (withInertia (a .n) (a .dt) (pickedSystem (a .n) (a .settings) (a .rest .now) (predictedShape (a .dt) (a .n) (a .pins .now) (a .drape .now)) (a .pick))) _ _ k f (not-false (systemIsFinite (energyOf (a .n) (a .settings) (a .rest .now) (predictedShape (a .dt) (a .n) (a .pins .now) (a .drape .now))) (withInertia (a .n) (a .dt) (pickedSystem (a .n) (a .settings) (a .rest .now) (predictedShape (a .dt) (a .n) (a .pins .now) (a .drape .now)) (a .pick)))) (rw (c .before .is-finite .ensures, s, x) at (c .if2 .left))) x s
+    let f = not-false (edgesFit (a .n) (b .now .positions)) (rw (c .before .before .before .before .before .before .before .before .before .before .before .before .staged-edges-fit .ensures, h) at (c .before .before .before .before .before .before .before .before .before .before .before .if1 .left)) in
+    begins-well (a .n) b _ _ k f (not-false (systemIsFinite (b .energy) (b .system)) (rw (c .before .is-finite .ensures, s, x) at (c .if2 .left))) x s
 
 pub begin-dynamic-spec : {M : Type 1} → statement M
 begin-dynamic-spec =

@@ -1,16 +1,12 @@
 -- Each return is the first test that failed, or none; only then the drape is written.
 use borrow.Author.Needs.{needs}
-use mathlib.Core.Path.{_≡_, refl, ap, _∙_}
+use mathlib.Core.Path.{_≡_, ap, _∙_}
 use mathlib.Core.Bool.{true, false}
-use mathlib.Core.List.{List}
-use lib.Ieee.{Float}
 use borrow.Author.Tests.{not-true, not-false}
 use Rattle.matrix.specs.Rows.{rows4}
 use Rattle.matrix.specs.Area.{placeU}
 use Rattle.matrix.specs.HairSystem.{Shape, stagedShape}
 use Rattle.matrix.specs.ConjugateGradient.{outcome}
-use Rattle.bench.specs.declared.seats.Settings.{Settings}
-use Rattle.bench.specs.Strand.{Strand, strand}
 use Rattle.bench.specs.Update.{turnsFit, updateSolutionHair}
 use Rattle.bench.specs.Step.{outcomeIsFinite, drapeIsFinite, dynamicDrape}
 use Rattle.bench.proofs.Ending.{ends-nine, ends-ten, ends-eleven, ends-well}
@@ -29,9 +25,9 @@ returns c =
     let a = c .before .before .before .before .before .before .args in
     let o = outcome (rows4 (a .work .now) placeU (a .n)) (a .s .count) (a .s .ratio) in
     let now = stagedShape (a .n) (a .work .now) in
-    let x : Settings → List Float → Strand = λ g rest. strand (a .n) g rest (a .drape .now) (a .pins .now) in
+    let d = dynamicDrape (a .dt) (a .n) (a .pins .now) (a .drape .now) (updateSolutionHair (a .n) (a .pins .now) now (o .solution)) in
     let h : outcomeIsFinite o ≡ false = not-true (outcomeIsFinite o) (rw (c .before .solution-is-finite .ensures) at (c .if1 .taken)) in
-    (λ g rest. rw (ends-nine (x g rest) now (dynamicDrape (a .dt) (a .n) (a .pins .now) (a .drape .now)) (a .energy) o h), λ g rest. rw (ends-nine (x g rest) now (dynamicDrape (a .dt) (a .n) (a .pins .now) (a .drape .now)) (a .energy) o h))
+    (rw (ends-nine (a .n) (a .pins .now) now o d h), rw (ends-nine (a .n) (a .pins .now) now o d h))
 
 update-requires : tie.Need-update-requires
 update-requires c κs = search needs
@@ -45,10 +41,10 @@ returns-2 c =
     let a = c .before .before .before .before .before .before .before .before .before .before .before .args in
     let o = outcome (rows4 (a .work .now) placeU (a .n)) (a .s .count) (a .s .ratio) in
     let now = stagedShape (a .n) (a .work .now) in
-    let x : Settings → List Float → Strand = λ g rest. strand (a .n) g rest (a .drape .now) (a .pins .now) in
+    let d = dynamicDrape (a .dt) (a .n) (a .pins .now) (a .drape .now) (updateSolutionHair (a .n) (a .pins .now) now (o .solution)) in
     let h : outcomeIsFinite o ≡ true = not-false (outcomeIsFinite o) (rw (c .before .before .before .before .before .before .solution-is-finite .ensures) at (c .before .before .before .before .before .if1 .left)) in
     let k : turnsFit (a .n) (a .pins .now) now (o .solution) ≡ false = not-true (turnsFit (a .n) (a .pins .now) now (o .solution)) (rw (c .before .before .before .update .ensures .0) at (c .if2 .taken)) in
-    (λ g rest. rw (ends-ten (x g rest) now (dynamicDrape (a .dt) (a .n) (a .pins .now) (a .drape .now)) (a .energy) o h k), λ g rest. rw (ends-ten (x g rest) now (dynamicDrape (a .dt) (a .n) (a .pins .now) (a .drape .now)) (a .energy) o h k))
+    (rw (ends-ten (a .n) (a .pins .now) now o d h k), rw (ends-ten (a .n) (a .pins .now) now o d h k))
 
 stage-dynamic-requires : tie.Need-stage-dynamic-requires
 stage-dynamic-requires c κs = search needs
@@ -65,16 +61,15 @@ returns-3 c =
     let a = c .before .before .before .before .before .before .before .before .before .before .before .before .before .before .before .before .before .args in
     let o = outcome (rows4 (a .work .now) placeU (a .n)) (a .s .count) (a .s .ratio) in
     let now = stagedShape (a .n) (a .work .now) in
-    let x : Settings → List Float → Strand = λ g rest. strand (a .n) g rest (a .drape .now) (a .pins .now) in
+    let d = dynamicDrape (a .dt) (a .n) (a .pins .now) (a .drape .now) (updateSolutionHair (a .n) (a .pins .now) now (o .solution)) in
     let h : outcomeIsFinite o ≡ true = not-false (outcomeIsFinite o) (rw (c .before .before .before .before .before .before .before .before .before .before .before .before .solution-is-finite .ensures) at (c .before .before .before .before .before .before .before .before .before .before .before .if1 .left)) in
     let m = c .before .before .before .before .before .before .before .before .before .update .ensures in
     let k : turnsFit (a .n) (a .pins .now) now (o .solution) ≡ true = not-false (turnsFit (a .n) (a .pins .now) now (o .solution)) (rw (m .0) at (c .before .before .before .before .before .before .if2 .left)) in
     let v = c .before .before .before .stage-dynamic .ensures in
     let y = v .1 .1 in
-    let q = updateSolutionHair (a .n) (a .pins .now) now (o .solution) in
-    let b = v .0 ∙ ap (λ (p : Shape). drapeIsFinite (a .n) ((dynamicDrape (a .dt) (a .n) (a .pins .now) (a .drape .now)) p)) (m .1) in
-    let f : drapeIsFinite (a .n) ((dynamicDrape (a .dt) (a .n) (a .pins .now) (a .drape .now)) q) ≡ false = not-true (drapeIsFinite (a .n) ((dynamicDrape (a .dt) (a .n) (a .pins .now) (a .drape .now)) q)) (rw b at (c .if3 .taken)) in
-    (λ g rest. rw (ends-eleven (x g rest) now (dynamicDrape (a .dt) (a .n) (a .pins .now) (a .drape .now)) (a .energy) o h k q refl f), λ g rest. rw (ends-eleven (x g rest) now (dynamicDrape (a .dt) (a .n) (a .pins .now) (a .drape .now)) (a .energy) o h k q refl f))
+    let b = v .0 ∙ ap (λ (p : Shape). drapeIsFinite (a .n) (dynamicDrape (a .dt) (a .n) (a .pins .now) (a .drape .now) p)) (m .1) in
+    let f : drapeIsFinite (a .n) d ≡ false = not-true (drapeIsFinite (a .n) d) (rw b at (c .if3 .taken)) in
+    (rw (ends-eleven (a .n) (a .pins .now) now o d h k f), rw (ends-eleven (a .n) (a .pins .now) now o d h k f))
 
 copy-dynamic-requires : tie.Need-copy-dynamic-requires
 copy-dynamic-requires c κs = search needs
@@ -91,16 +86,15 @@ returns-4 c =
     let a = c .before .before .before .before .before .before .before .before .before .before .before .before .before .before .before .before .before .before .before .before .before .before .args in
     let o = outcome (rows4 (a .work .now) placeU (a .n)) (a .s .count) (a .s .ratio) in
     let now = stagedShape (a .n) (a .work .now) in
-    let x : Settings → List Float → Strand = λ g rest. strand (a .n) g rest (a .drape .now) (a .pins .now) in
+    let d = dynamicDrape (a .dt) (a .n) (a .pins .now) (a .drape .now) (updateSolutionHair (a .n) (a .pins .now) now (o .solution)) in
     let h : outcomeIsFinite o ≡ true = not-false (outcomeIsFinite o) (rw (c .before .before .before .before .before .before .before .before .before .before .before .before .before .before .before .before .before .solution-is-finite .ensures) at (c .before .before .before .before .before .before .before .before .before .before .before .before .before .before .before .before .if1 .left)) in
     let m = c .before .before .before .before .before .before .before .before .before .before .before .before .before .before .update .ensures in
     let k : turnsFit (a .n) (a .pins .now) now (o .solution) ≡ true = not-false (turnsFit (a .n) (a .pins .now) now (o .solution)) (rw (m .0) at (c .before .before .before .before .before .before .before .before .before .before .before .if2 .left)) in
     let v = c .before .before .before .before .before .before .before .before .stage-dynamic .ensures in
     let y = v .1 .1 in
-    let q = updateSolutionHair (a .n) (a .pins .now) now (o .solution) in
-    let b = v .0 ∙ ap (λ (p : Shape). drapeIsFinite (a .n) ((dynamicDrape (a .dt) (a .n) (a .pins .now) (a .drape .now)) p)) (m .1) in
-    let f : drapeIsFinite (a .n) ((dynamicDrape (a .dt) (a .n) (a .pins .now) (a .drape .now)) q) ≡ true = not-false (drapeIsFinite (a .n) ((dynamicDrape (a .dt) (a .n) (a .pins .now) (a .drape .now)) q)) (rw b at (c .before .before .before .before .before .if3 .left)) in
-    (λ g rest. rw (ends-well (x g rest) now (dynamicDrape (a .dt) (a .n) (a .pins .now) (a .drape .now)) (a .energy) o h k q refl f), λ g rest. rw (ends-well (x g rest) now (dynamicDrape (a .dt) (a .n) (a .pins .now) (a .drape .now)) (a .energy) o h k q refl f) (c .before .before .copy-dynamic .ensures (a .dt) y ∙ ap (dynamicDrape (a .dt) (a .n) (a .pins .now) (a .drape .now)) (v .1 .0 ∙ m .1)))
+    let b = v .0 ∙ ap (λ (p : Shape). drapeIsFinite (a .n) (dynamicDrape (a .dt) (a .n) (a .pins .now) (a .drape .now) p)) (m .1) in
+    let f : drapeIsFinite (a .n) d ≡ true = not-false (drapeIsFinite (a .n) d) (rw b at (c .before .before .before .before .before .if3 .left)) in
+    (rw (ends-well (a .n) (a .pins .now) now o d h k f), rw (ends-well (a .n) (a .pins .now) now o d h k f) (c .before .before .copy-dynamic .ensures (a .dt) y ∙ ap (dynamicDrape (a .dt) (a .n) (a .pins .now) (a .drape .now)) (v .1 .0 ∙ m .1)))
 
 pub finish-dynamic-spec : {M : Type 1} → statement M
 finish-dynamic-spec =
