@@ -1,7 +1,8 @@
 """What `rt dev` says of an edited crate, read as a verdict on each edit.
 
-A refusal does not count where the first error is a known one of a proof file that no longer fits the code's shape. Others of that kind, such
-as a rewrite that finds nothing to rewrite, are not told from a fact that fails. In a function that has no proof file a refusal is a need
+A refusal does not count where the first error stands in src/ or specs/, since then the edit itself is not well formed, nor where it is a
+known one of a proof file that no longer fits the code's shape. Others of that kind, such as a rewrite that finds nothing to rewrite, are not
+told from a fact that fails. In a function that has no proof file a refusal is a need
 that the prover's own search does not close.
 
 Several edits can be judged by one check where each changes the body of another function with a proof file. A body is private to that
@@ -28,6 +29,8 @@ def errors_of(said, folder):
 def judged(errors):
     """(refused, words) by the first of the errors."""
     place = re.sub(r':? error.*', '', errors[0], flags=re.S)
+    if place.startswith(('src/', 'specs/')):
+        return False, 'refused only because the edit is not well formed, at ' + place
     if any(m in errors[0] for m in MISFITS):
         return False, 'refused only because the proof file no longer fits, at ' + place
     return True, 'refused, first at ' + place
