@@ -20,8 +20,8 @@ use Rattle.bench.specs.Calls.{restLong, drapeLong, pinsLong, lentLong, s
 use Rattle.bench.proofs.EntryRows.{all-four, test-one, test-two, no-test, entry-then}
 
 pub asked-tests : (r : Record) (rest drape : List Float) (pins : List ℕ) (work : List Float) (s : ℕ) (p : Pick) (d : Time) (k : ℕ)
-    → k ≡ first (seatRows (eqb (length rest) restNumbers && eqb (length drape) drapeNumbers && eqb (length pins) pinBytes && eqb (length work) workNumbers) s r ++ (taken (getD (r .counts) s 0) ∷ []))
-    → first (seatRows (lentLong (lends (step p d)) (lentOf (callWith work s (step p d))) (benchOf r rest drape pins)) s r ++ askedRows (strandOf s (benchOf r rest drape pins)) p d)
+    → k ≡ first (seatRows (eqb (length rest) restNumbers && eqb (length drape) drapeNumbers && eqb (length pins) pinBytes && eqb (length work) workNumbers) (s ∷ []) r ++ (taken (getD (r .counts) s 0) ∷ []))
+    → first (seatRows (lentLong (lends (step p d)) (lentOf (callWith work s (step p d))) (benchOf r rest drape pins)) (s ∷ []) r ++ askedRows (strandOf s (benchOf r rest drape pins)) p d)
     ≡ cond (eqb k 0) (cond (not (pickFits (getD (r .counts) s 0) p)) 5 (cond (not (goalFits p && timeFits d)) 6 0)) k
 unfolding lentLong lentOf every strandOf
 asked-tests r rest drape pins work s p d k e =

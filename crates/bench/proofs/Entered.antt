@@ -82,7 +82,7 @@ module _ (w : List Float) (s : ℕ) (a : Request) (b : Bench) where
   unfolding doneOf caseOf seatRows every
   entered k e q =
       let h = sym e ∙ q in
-      let ps = seatRows (lentLong (lends a) (lentOf (callWith w s a)) b) s (b .seats) in
+      let ps = seatRows (lentLong (lends a) (lentOf (callWith w s a)) b) (s ∷ []) (b .seats) in
       let rs = caseAt a (strandOf s b) .rows in
       let p = entry-passed _ s (b .seats) rs h in
       record {

@@ -71,7 +71,7 @@ behind ps rs e = by-equality (first ps) 0 (λ z. rw (eq-eqb (first ps) 0 z) (fir
 
 module _ (long : Bool) (s : ℕ) (r : Record) where
   -- ---- 1 and 2
-  pub seat-tests : first (seatRows long s r) ≡ cond (not long || not (goodRecord r)) 1 (cond (leb seats s) 2 0)
+  pub seat-tests : first (seatRows long (s ∷ []) r) ≡ cond (not long || not (goodRecord r)) 1 (cond (leb seats s) 2 0)
   unfolding seatRows every
   seat-tests = rw (← not-both long (goodRecord r), ← not-below s seats) (test-two 1 long (goodRecord r) _ _ (one-test 2 (areSeats (s ∷ []) ∷ []) (ltb s seats) [] 0 (all-one _ ∙ all-one (ltb s seats)) no-test))
 
@@ -81,22 +81,22 @@ module _ (long : Bool) (s : ℕ) (r : Record) where
     pub seat : s < seats
     pub good : goodSeat (entryOf s r) ≡ true
 
-  pub entry-passed : (rs : List Row) → first (seatRows long s r ++ rs) ≡ 0 → Passed
+  pub entry-passed : (rs : List Row) → first (seatRows long (s ∷ []) r ++ rs) ≡ 0 → Passed
   unfolding seatRows every demandsOf
   entry-passed rs h =
-      let at = holds (seatRows long s r) refl (first-none (seatRows long s r) rs h) in
+      let at = holds (seatRows long (s ∷ []) r) refl (first-none (seatRows long (s ∷ []) r) rs h) in
       let m = ltb-true s seats (and-left (ltb s seats) true (at 2 0)) in
       record { lengths = at 1 0; seat = m; good = seat-of r (at 1 1) s m }
 
-  pub seat-is : (rs : List Row) → first (seatRows long s r ++ rs) ≡ 0 → s < seats
+  pub seat-is : (rs : List Row) → first (seatRows long (s ∷ []) r ++ rs) ≡ 0 → s < seats
   seat-is rs h = entry-passed rs h .seat
 
   -- ---- 3, behind the number of the seat
-  pub third-test : (a : Bool) (k : ℕ) → k ≡ first (seatRows long s r) → first (seatRows long s r ++ (unless 3 (a ∷ []) ∷ [])) ≡ cond (eqb k 0) (cond (not a) 3 0) k
+  pub third-test : (a : Bool) (k : ℕ) → k ≡ first (seatRows long (s ∷ []) r) → first (seatRows long (s ∷ []) r ++ (unless 3 (a ∷ []) ∷ [])) ≡ cond (eqb k 0) (cond (not a) 3 0) k
   unfolding seatRows every
-  third-test a k e = rw (behind (seatRows long s r) (unless 3 (a ∷ []) ∷ []) refl, ← e, test-one 3 a [] 0 no-test)
+  third-test a k e = rw (behind (seatRows long (s ∷ []) r) (unless 3 (a ∷ []) ∷ []) refl, ← e, test-one 3 a [] 0 no-test)
 
   -- ---- a whole table, behind the number of the entry
-  pub entry-then : (lent : Bool) → lent ≡ long → (x : Row) → inTable x ≡ true → (rs : List Row) (m : ℕ) → first rs ≡ m → (k : ℕ) → k ≡ first (seatRows long s r ++ (x ∷ [])) → first (seatRows lent s r ++ (x ∷ rs)) ≡ cond (eqb k 0) m k
+  pub entry-then : (lent : Bool) → lent ≡ long → (x : Row) → inTable x ≡ true → (rs : List Row) (m : ℕ) → first rs ≡ m → (k : ℕ) → k ≡ first (seatRows long (s ∷ []) r ++ (x ∷ [])) → first (seatRows lent (s ∷ []) r ++ (x ∷ rs)) ≡ cond (eqb k 0) m k
   unfolding seatRows every
-  entry-then lent l x t rs m f k e = rw (l, behind (seatRows long s r ++ (x ∷ [])) rs (rw t), ← e, f)
+  entry-then lent l x t rs m f k e = rw (l, behind (seatRows long (s ∷ []) r ++ (x ∷ [])) rs (rw t), ← e, f)

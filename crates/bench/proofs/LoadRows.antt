@@ -34,7 +34,7 @@ pub sized : (g : Load) → all (goodCount (g .count) ∷ eqb (length (g .positio
 sized g h = record { count = between (g .count) (held-at _ 0 h); positions = eqb-true _ _ (held-at _ 1 h); frames = eqb-true _ _ (held-at _ 2 h) }
 
 module _ (r : Record) (rest drape : List Float) (pins : List ℕ) (s : ℕ) (g : Load) where
-  pub load-tests : (k : ℕ) → k ≡ first (seatRows (eqb (length rest) restNumbers && eqb (length drape) drapeNumbers && eqb (length pins) pinBytes) s r ++ (vacant (getD (r .counts) s 0) ∷ []))
+  pub load-tests : (k : ℕ) → k ≡ first (seatRows (eqb (length rest) restNumbers && eqb (length drape) drapeNumbers && eqb (length pins) pinBytes) (s ∷ []) r ++ (vacant (getD (r .counts) s 0) ∷ []))
       → numberOf (call s (load g)) (benchOf r rest drape pins)
       ≡ cond (eqb k 0)
       (cond (not (goodCount (g .count) && eqb (length (g .positions)) (3 * g .count) && eqb (length (g .frames)) (3 * g .count))) 4

@@ -45,7 +45,7 @@ module _ (r : Record) (rest drape : List Float) (pins : List ℕ) (s kind : ℕ)
   abbrev n : ℕ
   n = getD (r .counts) s 0
 
-  pub look-tests : (k : ℕ) → k ≡ first (seatRows (eqb (length rest) restNumbers && eqb (length drape) drapeNumbers) s r ++ (taken n ∷ []))
+  pub look-tests : (k : ℕ) → k ≡ first (seatRows (eqb (length rest) restNumbers && eqb (length drape) drapeNumbers) (s ∷ []) r ++ (taken n ∷ []))
       → numberOf (call s (look kind)) (benchOf r rest drape pins) ≡ cond (eqb k 0) (cond (leb 5 kind) 5 0) k
   unfolding doneOf caseOf caseAt strandOf lentLong every
   look-tests k e = let b = benchOf r rest drape pins in rw (← not-below kind 5) (entry-then _ s r _ (all-two (restLong b) (drapeLong b)) _ refl _ _ (test-one 5 _ _ _ no-test) k e)

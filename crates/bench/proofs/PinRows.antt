@@ -24,7 +24,7 @@ use Rattle.bench.proofs.EntryRows.{all-one, test-two, no-test, entry-th
 use Rattle.bench.proofs.Entered.{entered, call-done}
 
 module _ (r : Record) (rest drape : List Float) (pins : List ℕ) (s v c x : ℕ) where
-  pub pin-tests : (k : ℕ) → k ≡ first (seatRows (eqb (length pins) pinBytes) s r ++ (taken (getD (r .counts) s 0) ∷ []))
+  pub pin-tests : (k : ℕ) → k ≡ first (seatRows (eqb (length pins) pinBytes) (s ∷ []) r ++ (taken (getD (r .counts) s 0) ∷ []))
       → numberOf (call s (pin v c x)) (benchOf r rest drape pins) ≡ cond (eqb k 0) (cond (not (ltb v (getD (r .counts) s 0) && ltb c 4)) 5 0) k
   unfolding doneOf caseOf caseAt strandOf lentLong every
   pin-tests k e = entry-then _ s r _ (all-one (pinsLong (benchOf r rest drape pins))) _ refl _ _ (test-two 5 _ _ _ _ no-test) k e

@@ -63,7 +63,7 @@ module _ (w : List Float) (s : ℕ) (p : Pick) (d : Time) (b : Bench) where
   u = updateOf (strandOf s b) p d
 
   abbrev asked : List Row
-  asked = seatRows (lentLong (lends (step p d)) (lentOf this) b) s (b .seats) ++ askedRows (strandOf s b) p d
+  asked = seatRows (lentLong (lends (step p d)) (lentOf this) b) (s ∷ []) (b .seats) ++ askedRows (strandOf s b) p d
 
   asked-numbered : every inTable asked ≡ true
   unfolding seatRows every

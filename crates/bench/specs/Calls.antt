@@ -29,12 +29,12 @@ pinsLong b = eqb (length (b .pins)) pinBytes
 unfoldable pub lentLong : Lends → Lent → Bench → Bool
 lentLong e l b = all ((not (e .rest) || restLong b) ∷ (not (e .drape) || drapeLong b) ∷ (not (e .pins) || pinsLong b) ∷ (not (e .work) || eqb (l .workLength) workNumbers) ∷ [])
 
--- "a lent area has another length, or the record has a count that is neither 0 nor 2 to 32, or at a taken seat a setting that load declines under 6"; "seat above 5"
-unfoldable pub seatRows : Bool → ℕ → Record → List Row
-seatRows long s r = unless 1 (long ∷ goodRecord r ∷ []) ∷ unless 2 (areSeats (s ∷ []) ∷ []) ∷ []
+-- "a lent area has another length, or the record has a count that is neither 0 nor 2 to 32, or at a taken seat a setting that load declines under 6"; "seat above 5", of the seats l that the call is on
+unfoldable pub seatRows : Bool → List ℕ → Record → List Row
+seatRows long l r = unless 1 (long ∷ goodRecord r ∷ []) ∷ unless 2 (areSeats l ∷ []) ∷ []
 
 unfoldable pub caseOf : Asks → Lent → Bench → Case Left
-caseOf (of s a) l b = let c : Case Strand = caseAt a (strandOf s b) in comes (seatRows (lentLong (lends a) l b) s (b .seats) ++ c .rows) (c .answer) (onSeat s (c .leaves))
+caseOf (of s a) l b = let c : Case Strand = caseAt a (strandOf s b) in comes (seatRows (lentLong (lends a) l b) (s ∷ []) (b .seats) ++ c .rows) (c .answer) (onSeat s (c .leaves))
 
 -- ---- a refused call
 

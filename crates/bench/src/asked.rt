@@ -6,7 +6,7 @@ use crate::seats::Record;
 use matrix::area;
 use vectors::finite;
 ghost use mathlib.Core.Path.{_≡_};
-ghost use mathlib.Core.List.{_++_};
+ghost use mathlib.Core.List.{[], _∷_, _++_};
 ghost use Rattle.bench.specs.Strand.{strandOf, benchOf};
 ghost use Rattle.bench.specs.Rows.{first};
 ghost use Rattle.bench.specs.Step.{Time, over, pickFits, goalFits, timeFits};
@@ -53,7 +53,7 @@ pub(crate) fn step_number(
     pick: Pick,
     fits: bool,
 ) -> u8
-    ensures { λ k. ⌜ ((time : Time) → fits ≡ timeFits time → k ≡ first (seatRows (lentLong (lends (step pick time)) (lentOf (callWith (now (work .entry)) seat (step pick time))) (benchOf seats (now (rest .entry)) (now (drape .entry)) (now (pins .entry)))) seat seats ++ askedRows (strandOf seat (benchOf seats (now (rest .entry)) (now (drape .entry)) (now (pins .entry)))) pick time)) ⌝ }
+    ensures { λ k. ⌜ ((time : Time) → fits ≡ timeFits time → k ≡ first (seatRows (lentLong (lends (step pick time)) (lentOf (callWith (now (work .entry)) seat (step pick time))) (benchOf seats (now (rest .entry)) (now (drape .entry)) (now (pins .entry)))) (seat ∷ []) seats ++ askedRows (strandOf seat (benchOf seats (now (rest .entry)) (now (drape .entry)) (now (pins .entry)))) pick time)) ⌝ }
 {
     let long = (rest.len() == areas::REST)
         & (drape.len() == areas::DRAPE)

@@ -12,7 +12,7 @@ ghost use Rattle.bench.specs.Calls.{seatRows};
 
 // 1 or 2, in this order; 0 for none.
 fn seat_number(seats: Record, long: bool, seat: usize) -> u8
-    ensures { λ k. ⌜ k ≡ first (seatRows long seat seats) ⌝ }
+    ensures { λ k. ⌜ k ≡ first (seatRows long (seat ∷ []) seats) ⌝ }
 {
     if !long | !given::good_record(seats) {
         return 1;
@@ -25,7 +25,7 @@ fn seat_number(seats: Record, long: bool, seat: usize) -> u8
 
 // 1, 2 or 3, of a call that wants an empty seat.
 pub(crate) fn vacant_number(seats: Record, long: bool, seat: usize) -> u8
-    ensures { λ k. ⌜ k ≡ first (seatRows long seat seats ++ (vacant (getD (seats .counts) seat 0) ∷ [])) ⌝ }
+    ensures { λ k. ⌜ k ≡ first (seatRows long (seat ∷ []) seats ++ (vacant (getD (seats .counts) seat 0) ∷ [])) ⌝ }
 {
     let k = seat_number(seats, long, seat);
     if k != 0 {
@@ -40,7 +40,7 @@ pub(crate) fn vacant_number(seats: Record, long: bool, seat: usize) -> u8
 
 // 1, 2 or 3, of a call that wants a strand.
 pub(crate) fn taken_number(seats: Record, long: bool, seat: usize) -> u8
-    ensures { λ k. ⌜ k ≡ first (seatRows long seat seats ++ (taken (getD (seats .counts) seat 0) ∷ [])) ⌝ }
+    ensures { λ k. ⌜ k ≡ first (seatRows long (seat ∷ []) seats ++ (taken (getD (seats .counts) seat 0) ∷ [])) ⌝ }
 {
     let k = seat_number(seats, long, seat);
     if k != 0 {
