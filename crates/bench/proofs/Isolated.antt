@@ -1,10 +1,11 @@
 -- The theorem: a seat alone is a party, and the new bench agrees with itself. The pins are followed through the list, call by call, from the empty seat, and what work areas hold does not matter.
 use mathlib.Core.Path.{_≡_, refl, sym, ap, _∙_}
-use mathlib.Core.Bool.{Bool, true, false, false≢true, or-false}
+use mathlib.Core.Bool.{Bool, true, false≢true, or-false}
 use mathlib.Core.List.{List, [], _∷_}
 use Prim.Native.Nat.{ℕ, _<_}
 use lib.Dec.{eqb, ltb}
-use borrow.Author.Tests.{eq-eqb, eqb-true}
+use native.Mathlib.Omega.{arith}
+use borrow.Author.Tests.{eq-eqb, ne-eqb, eqb-true, ltb-false}
 use Rattle.matrix.specs.System.{every}
 use Rattle.bench.specs.Areas.{seats}
 use Rattle.bench.specs.Strand.{Bench, newBench, strandOf}
@@ -12,7 +13,7 @@ use Rattle.bench.specs.Rows.{any}
 use Rattle.bench.specs.Answers.{finiteAnswer}
 use Rattle.bench.specs.Asks.{Asks, of, Call}
 use Rattle.bench.specs.Calls.{afterOf}
-use Rattle.bench.specs.Runs.{run, after, keptBy, answersTo}
+use Rattle.bench.specs.Runs.{run, after, keptBy, KeepsItsOwn, answersTo}
 use Rattle.bench.specs.PinStory.{eventsOf, history, Story, empty, story}
 use Rattle.bench.specs.Isolation.{Isolation}
 use Rattle.matrix.proofs.Cases.{by-test}
@@ -36,6 +37,10 @@ finite-answers kept [] b g = refl
 finite-answers kept (c ∷ cs) b g = let ih = finite-answers kept cs (afterOf c b) (good-after c b g) in by-test (kept c) (λ e. rw (e, finite-answer c b g) ih) (λ e. rw e ih)
 
 -- ---- a seat alone
+pub keeps-its-own : KeepsItsOwn
+unfolding any every
+keeps-its-own s t a w h = by-test (ltb t seats) (λ q. rw q (or-false (eqb s t))) (λ q. rw q (sym (ne-eqb s t (λ e. omega (arith, ltb-false t seats q)))))
+
 one-named : (s : ℕ) (a : Asks) → Closed (eqb s) a
 unfolding any every
 one-named s (of r a) e t f =

@@ -2,16 +2,18 @@
 use Rattle.bench.specs.Theorems.{Theorems}
 use Rattle.bench.proofs.Filled.{filled}
 use Rattle.bench.proofs.EveryCall.{every-call-answers, companion-tells}
-use Rattle.bench.proofs.Contents.{contents-do-not-matter}
-use Rattle.bench.proofs.Isolated.{isolation}
+use Rattle.bench.proofs.Contents.{contents-do-not-matter, same-as-itself}
+use Rattle.bench.proofs.Isolated.{keeps-its-own, isolation}
 use Rattle.bench.proofs.AcceptedKinds.{step-accepts, static-keeps}
-use Rattle.bench.proofs.Examples.{examples}
+use Rattle.bench.proofs.Examples.{examples, pins-told}
 use Rattle.bench.proofs.Samples.{step-samples}
 use Rattle.bench.proofs.SamplesTwoSteps.{two-step-samples}
 
 theorems : Theorems
 theorems = record {
   isolation = isolation;
+  solo = keeps-its-own;
+  same = same-as-itself;
   contents = contents-do-not-matter;
   answers = every-call-answers;
   companion = companion-tells;
@@ -19,6 +21,7 @@ theorems = record {
   static = static-keeps;
   areas = filled;
   examples = examples;
+  pinsTold = pins-told;
   stepSamples = step-samples;
   twoStepSamples = two-step-samples;
 }

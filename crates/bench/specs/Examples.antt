@@ -1,5 +1,6 @@
--- Document 01's checked examples P1 to P10, as one table. Numbers are given and told by their bits, so that a zero's sign is seen.
+-- Document 01's checked examples P1 to P10, as one table, and what two of them tell of a pin. Numbers are given and told by their bits, so that a zero's sign is seen.
 use mathlib.Core.Path.{_≡_}
+use mathlib.Core.Bool.{true, false}
 use mathlib.Core.List.{List, [], _∷_, map}
 use Prim.Native.Nat.{ℕ}
 use lib.ListN.{replicate}
@@ -20,6 +21,7 @@ use Rattle.bench.specs.Step.{still, positionsIn}
 use Rattle.bench.specs.Answers.{Answer, said, handed, reported, stepNumbers}
 use Rattle.bench.specs.Asks.{loadOf, load, pin, step, Call, callWith, call}
 use Rattle.bench.specs.Runs.{Run, run}
+use Rattle.bench.specs.PinStory.{history, empty, laid, story}
 
 abbrev pub bits : List Float → List ℕ
 bits l = map (toBits binary64) l
@@ -110,3 +112,12 @@ pub record Examples : Type 0 where
   pub p9 : shown (free (v3 minusOne 0 0)) ≡ record { told = (0 ∷ []) ∷ (10 ∷ 0 ∷ 0 ∷ 0 ∷ []) ∷ []; place = one ∷ 0 ∷ 0 ∷ [] }
   -- "goal (0.5,0,0), positions of vertex 1 pinned: accepted, count 0"
   pub p10 : shown (held (v3 half 0 0)) ≡ record { told = (0 ∷ []) ∷ (0 ∷ []) ∷ (0 ∷ []) ∷ (0 ∷ []) ∷ (0 ∷ 0 ∷ 0 ∷ 0 ∷ []) ∷ []; place = one ∷ 0 ∷ 0 ∷ [] }
+
+-- ---- what calls tell of a pin
+
+-- Component 0 of vertex 1, which the load puts at 1.
+pub record PinsTold : Type 0 where
+  -- pinned, and so at the only step
+  pub pinned : story 1 0 empty (history seat (held (v3 half 0 0)) newBench) ≡ laid (number one) true true
+  -- not pinned, and so not at every step
+  pub loose : story 1 0 empty (history seat (free (v3 half 0 0)) newBench) ≡ laid (number one) false false

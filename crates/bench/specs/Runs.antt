@@ -2,12 +2,15 @@
 use mathlib.Core.Path.{_≡_}
 use mathlib.Core.Bool.{Bool, true, false, _||_}
 use mathlib.Core.List.{List, [], _∷_}
-use Prim.Native.Nat.{ℕ}
+use Prim.Native.Nat.{ℕ, _<_}
+use lib.Dec.{eqb}
 use lib.ListN.{length}
+use lib.Ieee.{Float}
+use Rattle.bench.specs.Areas.{seats}
 use Rattle.bench.specs.Strand.{Bench, putAll}
 use Rattle.bench.specs.Rows.{any}
 use Rattle.bench.specs.Answers.{Answer}
-use Rattle.bench.specs.Asks.{Asks, of, Call, names}
+use Rattle.bench.specs.Asks.{Request, Asks, of, Call, callWith, names}
 use Rattle.bench.specs.Calls.{Done, doneOf, answerOf, afterOf}
 
 -- ---- all answers, and the bench in the end; each call is worked out once
@@ -36,11 +39,15 @@ always (of s a) = false
 abbrev pub keptBy : (ℕ → Bool) → Call → Bool
 keptBy party c = always (c .asks) || any party (names (c .asks))
 
+-- "The second list, the seat's solo run, keeps in order the calls whose seat number is that seat's; a call on seat 6 or above is in no solo run." The party of seat s alone is `eqb s`.
+abbrev pub KeepsItsOwn : Type 0
+KeepsItsOwn = (s t : ℕ) (a : Request) (w : List Float) → s < seats → keptBy (eqb s) (callWith w t a) ≡ eqb s t
+
 abbrev pub keep : {A : Type 0} → Bool → A → List A → List A
 keep true x l = x ∷ l
 keep false x l = l
 
--- "The seat's solo run keeps in order the calls whose seat number is that seat's".
+-- The kept calls, in order.
 unfoldable pub solo : (Call → Bool) → List Call → List Call
 solo kept [] = []
 solo kept (c ∷ cs) = keep (kept c) c (solo kept cs)
@@ -59,3 +66,7 @@ pub record Same (c d : Call) : Type 0 where
 pub data SameCalls : List Call → List Call → Type 0 where
   none : SameCalls [] []
   more : {c d : Call} {cs ds : List Call} → Same c d → SameCalls cs ds → SameCalls (c ∷ cs) (d ∷ ds)
+
+-- Every list is the same calls as itself, so a solo run is one of the lists that the theorem holds it against.
+abbrev pub SameAsItself : Type 0
+SameAsItself = (cs : List Call) → SameCalls cs cs
