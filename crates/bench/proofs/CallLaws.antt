@@ -5,7 +5,6 @@ use mathlib.Core.List.{List, []}
 use mathlib.Core.Logic.{_≢_}
 use Prim.Native.Nat.{ℕ, zero, suc, _<_}
 use lib.Dec.{eqb}
-use Rattle.matrix.specs.System.{every}
 use Rattle.bench.specs.Areas.{seats}
 use Rattle.bench.specs.Strand.{Strand, Bench, strandOf}
 use Rattle.bench.specs.Rows.{any}

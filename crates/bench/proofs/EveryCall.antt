@@ -26,8 +26,8 @@ use Rattle.bench.proofs.Requests.{refusal-tells, answer-tells}
 use Rattle.bench.proofs.CallLaws.{Sound}
 use Rattle.bench.proofs.OneSeat.{numbered-one, sound-of}
 
-numbered-of : (a : Asks) (w : List Float) (l : Lent) (b : Bench) → every inTable (caseOf a l b .rows) ≡ true
-numbered-of (of s a) w l b = numbered-one s a w l b
+numbered-of : (a : Asks) (l : Lent) (b : Bench) → every inTable (caseOf a l b .rows) ≡ true
+numbered-of (of s a) l b = numbered-one s a l b
 
 in-table : (rs : List Row) → every inTable rs ≡ true → every (λ (r : Row). leb (r .number) lastNumber) rs ≡ true
 in-table rs h = every-weaken (λ (r : Row). leb (r .number) lastNumber) inTable (λ r e. and-right (leb 1 (r .number)) (leb (r .number) lastNumber) e) rs h
@@ -40,8 +40,8 @@ tells-by (of s a) l b (suc n) = refusal-tells a (suc n)
 pub every-call-answers : EveryCallAnswers
 unfolding doneOf putAll
 every-call-answers c b = record {
-  rows = numbered-of (c .asks) (c .work) (lentOf c) b;
-  bound = leb-true (numberOf c b) lastNumber (first-such (λ k. leb k lastNumber) refl (caseOf (c .asks) (lentOf c) b .rows) (in-table (caseOf (c .asks) (lentOf c) b .rows) (numbered-of (c .asks) (c .work) (lentOf c) b)));
+  rows = numbered-of (c .asks) (lentOf c) b;
+  bound = leb-true (numberOf c b) lastNumber (first-such (λ k. leb k lastNumber) refl (caseOf (c .asks) (lentOf c) b .rows) (in-table (caseOf (c .asks) (lentOf c) b .rows) (numbered-of (c .asks) (lentOf c) b)));
   accepted = λ e. rw e;
   declined = λ n. answer-refused (c .asks) (numberOf c b) (caseOf (c .asks) (lentOf c) b .answer) n;
   unchanged = λ n. rw (leaves-refused (numberOf c b) (caseOf (c .asks) (lentOf c) b .leaves) n);

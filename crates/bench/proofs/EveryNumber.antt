@@ -45,7 +45,7 @@ module _ {A : Type 0} (t : A → Bool) where
   every-weaken u h [] e = refl
   every-weaken u h (x ∷ l) e = rw (h x (and-left (u x) (every u l) e)) (every-weaken u h l (and-right (u x) (every u l) e))
 
--- what holds of t, of some element of a list that t is in
+-- what holds of t holds of some element of a list that t is in
 pub any-of : (p : ℕ → Bool) (t : ℕ) (l : List ℕ) → p t ≡ true → any (eqb t) l ≡ true → any p l ≡ true
 unfolding any
 any-of p t [] h e = e

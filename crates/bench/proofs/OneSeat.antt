@@ -24,13 +24,13 @@ use Rattle.bench.proofs.Tracking.{Tracks}
 use Rattle.bench.proofs.Requests.{numbered, refusal-finite, Lawful, lawful}
 use Rattle.bench.proofs.CallLaws.{on, Sound, Local, events-refused, lent-alike}
 
+pub numbered-one : (s : ℕ) (a : Request) (l : Lent) (b : Bench) → every inTable (caseOf (of s a) l b .rows) ≡ true
+unfolding caseOf seatRows every
+numbered-one s a l b = numbered a (strandOf s b)
+
 module _ (s : ℕ) (a : Request) (w : List Float) where
   abbrev this : Call
   this = callWith w s a
-
-  pub numbered-one : (l : Lent) (b : Bench) → every inTable (caseOf (of s a) l b .rows) ≡ true
-  unfolding caseOf seatRows every
-  numbered-one l b = numbered a (strandOf s b)
 
   -- an accepted one has a seat
   is-seat : (b : Bench) → numberOf this b ≡ 0 → s < seats

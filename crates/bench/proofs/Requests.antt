@@ -1,4 +1,4 @@
--- What a request does to its seat's strand, where none of its rows fails: it answers finite numbers, leaves fine strands of its own seat alone, and what it tells of a component is so of what it leaves.
+-- What a request does to its seat's strand, where none of its rows fails: it answers finite numbers, leaves fine strands, of its own seat only, and what it tells of a component is so of what it leaves.
 -- One pass over the requests; what a row demands is asked for by its number.
 use mathlib.Core.Path.{_≡_, refl, sym, ap, _∙_}
 use mathlib.Core.Bool.{Bool, true, false, not, cond, _&&_, true≢false}

@@ -72,7 +72,7 @@ unfolding every first
 first-behind [] rs e h = refl
 first-behind (p ∷ ps) rs e h = let q = passes p ps e h in rw (q .held) (first-behind ps rs (others p ps e) (q .then))
 
--- where none fails in both, none does in either
+-- where no row of both together fails, none of either does
 pub first-none : (ps rs : List Row) → first (ps ++ rs) ≡ 0 → first ps ≡ 0
 first-none ps rs h = by-equality (first ps) 0 (λ z. z) (λ n. absurd (n (rw (first-before ps rs n) at h)))
 

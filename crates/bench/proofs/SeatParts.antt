@@ -83,7 +83,7 @@ good-record b g = every-all (λ (t : ℕ). goodSeat (entryOf t (b .seats))) seat
 
 -- ---- one strand written
 module _ (b : Bench) (g : Long b) (s : ℕ) (h : s < seats) (x : Strand) (f : Fine x) where
-  pub strand-same : strandOf s (putStrand s x b) ≡ x
+  strand-same : strandOf s (putStrand s x b) ≡ x
   unfolding strandOf putStrand
   strand-same = λ i. record {
     count = getD-set-same (b .seats .counts) s (x .count) 0 (rw (g .counts) h) i;
@@ -93,7 +93,7 @@ module _ (b : Bench) (g : Long b) (s : ℕ) (h : s < seats) (x : Strand) (f : Fi
     pins = part-same pinPart (b .pins) (g .pins) s h 0 (x .pins) (f .pins) i;
   }
 
-  pub strand-other : (t : ℕ) → t < seats → t ≢ s → strandOf t (putStrand s x b) ≡ strandOf t b
+  strand-other : (t : ℕ) → t < seats → t ≢ s → strandOf t (putStrand s x b) ≡ strandOf t b
   unfolding strandOf putStrand
   strand-other t k n = λ i. record {
     count = getD-set-other (b .seats .counts) s t (x .count) 0 n i;

@@ -30,7 +30,7 @@ unfoldable pub stepNumbers : StepAnswer → StepNumbers
 stepNumbers (Accepted e x k) = record { number = 0; energy = e; count = k; ratio = x }
 stepNumbers (Refused k) = record { number = k; energy = plusZero; count = 0; ratio = plusZero }
 
--- Whether every number of the format that it tells is finite.
+-- Whether every f64 that it tells is finite.
 unfoldable pub finiteAnswer : Answer → Bool
 finiteAnswer (said k) = true
 finiteAnswer (handed l) = every isFinite l

@@ -51,7 +51,7 @@ refusalAt (step p d) k = reported (Refused k)
 pub data Asks : Type 0 where
   of : (seat : ℕ) (request : Request) → Asks
 
--- A call: what it asks, and what the work area holds that it is lent. Of a call that is lent none nothing goes by that list.
+-- A call: what it asks, and what the work area holds that it is lent. Nothing goes by that list where none is lent; `call` leaves it empty.
 pub record Call : Type 0 where
   pub asks : Asks
   pub work : List Float
@@ -72,7 +72,7 @@ areSeats l = every (λ (s : ℕ). ltb s seats) l
 abbrev pub known : List ℕ → List ℕ
 known l = cond (areSeats l) l []
 
--- "a call on seat 6 or above is in no solo run"
+-- A call on a seat that there is not names none.
 abbrev pub names : Asks → List ℕ
 names (of s a) = known (s ∷ [])
 

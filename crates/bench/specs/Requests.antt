@@ -1,4 +1,4 @@
--- What is asked of one seat: when it is refused, what it answers, and the strand that it leaves. Document 01, "Bench" and "When the bench declines".
+-- What is asked of one seat: when it is refused, what it answers, and the strand that it leaves. Document 01, "The areas", "Bench" and "When the bench declines".
 use mathlib.Core.Bool.{not, cond}
 use mathlib.Core.List.{List, [], _∷_, _++_}
 use Prim.Native.Nat.{ℕ, _+_, _-_, _*_}
@@ -22,7 +22,7 @@ use Rattle.bench.specs.Asks.{Load, Request, load, unload, pin, look, com
 
 -- ---- the strands that are left
 
--- l, and zeros up to the numbers of 32 vertices: "every entry past n becomes 0"
+-- l, and zeros up to the numbers of 32 vertices: "every entry past n become 0"
 unfoldable pub padded : List Float → List Float
 padded l = l ++ replicate (vectorPart - length l) plusZero
 
@@ -44,7 +44,7 @@ emptied t = record { count = 0; settings = settingsOf plusZero; rest = replicate
 unfoldable pub pinnedOn : ℕ → ℕ → ℕ → Strand → Strand
 pinnedOn v c x t = withPinBytes t (set (t .pins) (4 * v + c) x)
 
--- "Look, with kind 0 rest positions, 1 rest frames, 2 drape positions, 3 drape frames, 4 velocities, hands back that part, 3n numbers."
+-- "Look, with kind 0 rest positions, 1 rest frames, 2 drape positions, 3 drape frames, 4 velocities, hands back that part .., 3n numbers"
 unfoldable pub shownOf : ℕ → Strand → List Float
 shownOf kind t = cond (ltb kind 2) (part (t .rest) (vectorPart * kind) (3 * t .count)) (part (t .drape) (vectorPart * (kind - 2)) (3 * t .count))
 

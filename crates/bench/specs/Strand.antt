@@ -47,7 +47,7 @@ settingsBy k a b c r = record { «stiff_length» = k; «stiff_bendtwist0» = a; 
 
 -- All of them x.
 abbrev pub settingsOf : Float → Settings
-settingsOf x = record { «stiff_length» = x; «stiff_bendtwist0» = x; «stiff_bendtwist1» = x; «stiff_bendtwist2» = x; «conv_ratio» = x }
+settingsOf x = settingsBy x x x x x
 
 -- The numbers of the settings, one after the other: what is asked of all of them is asked once.
 abbrev pub settingNumbers : Settings → List Float
