@@ -2,8 +2,7 @@
 
 A refusal does not count where the first error stands in src/ or specs/, since then the edit itself is not well formed, nor where it is a
 known one of a proof file that no longer fits the code's shape. Others of that kind, such as a rewrite that finds nothing to rewrite, are not
-told from a fact that fails. In a function that has no proof file a refusal is a need
-that the prover's own search does not close.
+told from a fact that fails. In a function that has no proof file a refusal is a need that the prover's own search does not close.
 
 Several edits can be judged by one check where each changes the body of another function with a proof file. A body is private to that
 proof: the proofs of callers rest on the theorem of its contract and, while there is none, fail by a name that was not admitted. So any
