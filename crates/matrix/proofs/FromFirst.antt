@@ -1,5 +1,5 @@
 -- To a row without -0 a block's product may be added that is summed from its first term on, in place of the one from +0 on: the sums are the same. A row begins as the old one by 0, which may be -0.
--- So +0 is added first, which the first product makes good. Each law is one of proofs/Zeros.antt, number by number.
+-- So +0 is added first, which the first product makes good. Each law is one of crates/vectors/proofs/Zeros.antt, number by number.
 use mathlib.Core.Path.{_≡_, refl, sym, ap, _∙_, subst}
 use mathlib.Core.Bool.{true, false}
 use mathlib.Core.Logic.{inl, inr}
@@ -15,10 +15,10 @@ use Rattle.vectors.specs.Fits.{Vec4Fits}
 use Rattle.vectors.specs.declared.vec4.Vec4.{Vec4}
 use Rattle.vectors.specs.declared.mat4.Mat4.{Mat4}
 use Rattle.vectors.proofs.Fitting.{vec4Scale-fits, mat4TimesVec4-fits}
+use Rattle.vectors.proofs.Zeros.{Alike, alike-plus, alike-sum, plus-turned, plus-zero, opposite-zeros, zero-plus}
+use Rattle.vectors.proofs.WholeUnits.{plus-not-zero}
 use Rattle.matrix.specs.Rows.{zeroRow}
 use Rattle.matrix.specs.SparseSquare.{addProducts, timesFromFirst, NoMinusZero}
-use Rattle.matrix.proofs.Zeros.{Alike, alike-plus, alike-sum, plus-turned, plus-zero, opposite-zeros, zero-plus}
-use Rattle.matrix.proofs.WholeUnits.{plus-not-zero}
 
 -- ---- numbers
 sum-kept : (s z : Float) → plusZero ⊕ s ≡ s → T (fits binary64 z) → plusZero ⊕ (s ⊕ z) ≡ s ⊕ z

@@ -6,9 +6,6 @@ pub mod RowLaws
 pub mod RowPlaces
 pub mod Cases
 pub mod Columns
-pub mod OwnFraction
-pub mod Zeros
-pub mod WholeUnits
 pub mod FromFirst
 pub mod Products
 pub mod Every
@@ -22,8 +19,6 @@ pub mod Fixing
 pub mod Shapes
 pub mod EdgeLaws
 pub mod Descent
-pub mod FloatOrder
-pub mod SquareUnder
 pub mod RootBound
 pub mod Iteration
 pub mod Iterations

@@ -7,9 +7,9 @@ use lib.Ieee.{Float, nan, inf, fin, binary64, fits, ofBits, div, lt, eq, le}
 use Rattle.roots.specs.Sqrt.{sqrtOf}
 use Rattle.roots.proofs.Monotone.{sqrt-monotone}
 use Rattle.vectors.specs.Number.{_⊗_, _⊘_, plusZero, plusOne}
+use Rattle.vectors.proofs.FloatOrder.{not-below, infinite}
+use Rattle.vectors.proofs.SquareUnder.{square-under}
 use Rattle.matrix.specs.RootBound.{NoneBelow, RootIfBelow}
-use Rattle.matrix.proofs.FloatOrder.{not-below, infinite}
-use Rattle.matrix.proofs.SquareUnder.{square-under}
 
 by-root : (tolerance bound : Float) → T (le plusZero bound) → lt (sqrtOf bound) tolerance ≡ false → NoneBelow tolerance bound
 by-root tolerance bound z p q h =

@@ -1,5 +1,10 @@
 -- The laws behind the crate's proofs, and those that the crates above cite.
 pub mod Finiteness
+pub mod FloatOrder
+pub mod OwnFraction
+pub mod Zeros
+pub mod WholeUnits
+pub mod SquareUnder
 pub mod Fitting
 pub mod Series
 pub mod Reversed

@@ -15,10 +15,10 @@ use lib.Ieee.Exact.{HasValue, odd-sign}
 use lib.Ieee.Nearest.{closest, nearest-ge}
 use lib.Ieee.Scale.{finite}
 use Rattle.roots.proofs.Spacing.{written}
 use Rattle.vectors.specs.Number.{_⊕_}
-use Rattle.matrix.proofs.OwnFraction.{zero-is}
 use Rattle.vectors.proofs.Finiteness.{zero-rounded}
-use Rattle.matrix.proofs.Zeros.{opposite-zeros}
+use Rattle.vectors.proofs.OwnFraction.{zero-is}
+use Rattle.vectors.proofs.Zeros.{opposite-zeros}
 
 -- ---- one unit
 not-zero : (x : Float) (s : Bool) (a c : ℕ) → 0 < a → HasValue x s a c → x ≡ fin true 0 (pos 0) → ⊥

@@ -17,9 +17,9 @@ use Rattle.roots.specs.Sqrt.{sqrtOf}
 use Rattle.roots.specs.Correct.{NoNearer}
 use Rattle.roots.proofs.Spacing.{written}
 use Rattle.roots.proofs.Correct.{sqrt-rounded}
 use Rattle.vectors.specs.Number.{_⊗_, plusZero}
-use Rattle.matrix.proofs.OwnFraction.{kept}
-use Rattle.matrix.proofs.FloatOrder.{not-below, infinite}
+use Rattle.vectors.proofs.OwnFraction.{kept}
+use Rattle.vectors.proofs.FloatOrder.{not-below, infinite}
 
 -- ---- rounded and exact fractions
 value-not-below : (x : Float) (k : ℕ) (d : ℤ) → HasValue x false (k * up d) (down d) → lt x (fin false k d) ≡ false

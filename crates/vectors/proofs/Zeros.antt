@@ -11,9 +11,9 @@ use lib.Dec.{T, ltb}
 use lib.IntN.{pos}
 use lib.Ieee.{Float, nan, inf, fin, binary64, up, down, size, odd, units, round, sum, add, fits}
 use lib.Ieee.Fits.{up-pos, down-pos}
 use Rattle.vectors.specs.Number.{_⊕_, plusZero, plusZero-is}
 use Rattle.vectors.proofs.Finiteness.{zero-rounded}
-use Rattle.matrix.proofs.OwnFraction.{own, zero-is}
+use Rattle.vectors.proofs.OwnFraction.{own, zero-is}
 
 -- the same, or -0 and +0
 abbrev pub Alike : Float → Float → Type 0
