@@ -1,13 +1,8 @@
 -- To a row without -0 a block's product may be added that is summed from its first term on, in place of the one from +0 on: the sums are the same. A row begins as the old one by 0, which may be -0.
 -- So +0 is added first, which the first product makes good. Each law is one of crates/vectors/proofs/Zeros.antt, number by number.
-use mathlib.Core.Path.{_≡_, refl, sym, ap, _∙_, subst}
-use mathlib.Core.Bool.{true, false}
-use mathlib.Core.Logic.{inl, inr}
+use mathlib.Core.Path.{_≡_, refl, sym, ap, _∙_}
+use mathlib.Core.Bool.{false}
 use mathlib.Core.List.{List, [], _∷_}
-use lib.Dec.{T}
-use lib.IntN.{pos}
-use lib.Ieee.{Float, fin, binary64, fits}
-use lib.Ieee.Fits.{add-fits}
 use Rattle.vectors.specs.Number.{_⊕_, plusZero, plusZero-is}
 use Rattle.vectors.specs.Vec4.{vec4Add, vec4Scale}
 use Rattle.vectors.specs.Mat4.{mat4TimesVec4}
@@ -15,21 +10,10 @@ use Rattle.vectors.specs.Fits.{Vec4Fits}
 use Rattle.vectors.specs.declared.vec4.Vec4.{Vec4}
 use Rattle.vectors.specs.declared.mat4.Mat4.{Mat4}
 use Rattle.vectors.proofs.Fitting.{vec4Scale-fits, mat4TimesVec4-fits}
-use Rattle.vectors.proofs.Zeros.{Alike, alike-plus, alike-sum, plus-turned, plus-zero, opposite-zeros, zero-plus}
-use Rattle.vectors.proofs.WholeUnits.{plus-not-zero}
+use Rattle.vectors.proofs.Zeros.{Alike, alike-plus, alike-sum, plus-turned, plus-zero, zero-plus}
+use Rattle.vectors.proofs.WholeUnits.{sum-kept}
 use Rattle.matrix.specs.Rows.{zeroRow}
 use Rattle.matrix.specs.SparseSquare.{addProducts, timesFromFirst, NoMinusZero}
-
--- ---- numbers
-sum-kept : (s z : Float) → plusZero ⊕ s ≡ s → T (fits binary64 z) → plusZero ⊕ (s ⊕ z) ≡ s ⊕ z
-sum-kept s z k g = rw plusZero-is (by-sum (zero-plus (s ⊕ z) (add-fits binary64 s z)))
-  where
-    never : s ≡ fin true 0 (pos 0) → ⊥
-    never e = opposite-zeros e (sym k ∙ rw (plusZero-is, e) (plus-zero true))
-
-    by-sum : Alike (s ⊕ z) (fin false 0 (pos 0) ⊕ (s ⊕ z)) → fin false 0 (pos 0) ⊕ (s ⊕ z) ≡ s ⊕ z
-    by-sum (inl e) = sym e
-    by-sum (inr w) = absurd (plus-not-zero s z (subst (λ (x : Float). T (fits binary64 x)) k (add-fits binary64 plusZero s)) g never (w .0))
 
 -- ---- rows
 abbrev AlikeRows : Vec4 → Vec4 → Type 0

@@ -7,7 +7,7 @@ use lib.Ieee.{Float, nan, inf, fin, binary64, fits, ofBits, div, lt, eq, le}
 use Rattle.roots.specs.Sqrt.{sqrtOf}
 use Rattle.roots.proofs.Monotone.{sqrt-monotone}
 use Rattle.vectors.specs.Number.{_⊗_, _⊘_, plusZero, plusOne}
-use Rattle.vectors.proofs.FloatOrder.{not-below, infinite}
+use Rattle.vectors.proofs.FloatOrder.{lt-le, not-below, infinite}
 use Rattle.vectors.proofs.SquareUnder.{square-under}
 use Rattle.matrix.specs.RootBound.{NoneBelow, RootIfBelow}
 
@@ -19,10 +19,6 @@ by-root tolerance bound z p q h =
 pub zero-bounds : (tolerance : Float) → lt plusZero tolerance ≡ false → NoneBelow tolerance plusZero
 unfolding ofBits lt eq le sqrtOf
 zero-bounds tolerance p = by-root tolerance plusZero tt p
-
-lt-le : (x y : Float) → lt x y ≡ true → T (le x y)
-unfolding le
-lt-le x y h = rw h tt
 
 pub above-square-bounds : (tolerance bound : Float) → T (fits binary64 tolerance) → T (fits binary64 bound) → lt plusZero tolerance ≡ true → lt (tolerance ⊗ tolerance) bound ≡ true → NoneBelow tolerance bound
 above-square-bounds tolerance bound f g p l =

@@ -66,6 +66,10 @@ on-fractions r s t b d a e c f D E F p q =
     sym (scaled r t (b * f) (c * d) e E) ∙ rw (mul-right-comm b f e) (on-whole r s t (b * e * f) (a * d * f) (c * d * e) P Q)
 
 -- ---- every case of the order
+pub lt-le : (x y : Float) → lt x y ≡ true → T (le x y)
+unfolding le
+lt-le x y h = rw h tt
+
 pub infinite : (z : Float) → lt (inf false) z ≡ false
 unfolding lt
 infinite nan = refl

@@ -1,6 +1,8 @@
 -- A sum is -0 only where its first term is. Both terms are whole numbers of the smallest unit, and so is their sum: where it is not exactly 0 it is at least one unit and does not round to 0.
+-- So a value that +0 added leaves as it is stays such a value where another is added to it.
 use mathlib.Core.Path.{_≡_, refl, sym, ap, _∙_, subst}
 use mathlib.Core.Bool.{Bool, true, false, _&&_, cond, true≢false}
+use mathlib.Core.Logic.{inl, inr}
 use Prim.Native.Nat.{ℕ, zero, suc, _+_, _-_, _*_, _/_, _%_, _^_, _≤_, _<_, compare}
 use native.Mathlib.Nat.{le-trans, le-of-eq, lt-of-lt-of-le, lt-of-not-le, not-le-of-lt, zero-lt-suc, zero-mul, one-mul, mul-pos, mul-comm, mul-assoc, mul-right-comm, le-div-iff-mul-le, add-mul, mul-sub, suc-mul}
 use native.Mathlib.Omega.{arith}
@@ -10,15 +12,15 @@ use lib.IntN.{ℤ, pos}
 use lib.Pow.{pow-pos, pow-mono}
 use lib.Ieee.{Float, nan, inf, fin, binary64, low, up, down, size, odd, units, round, sum, add, fits}
 use lib.Ieee.Digits.{size-lt, size-reaches}
-use lib.Ieee.Fits.{up-pos, down-pos, round-is}
+use lib.Ieee.Fits.{up-pos, down-pos, round-is, add-fits}
 use lib.Ieee.Exact.{HasValue, odd-sign}
 use lib.Ieee.Nearest.{closest, nearest-ge}
 use lib.Ieee.Scale.{finite}
 use Rattle.roots.proofs.Spacing.{written}
-use Rattle.vectors.specs.Number.{_⊕_}
+use Rattle.vectors.specs.Number.{_⊕_, plusZero, plusZero-is}
 use Rattle.vectors.proofs.Finiteness.{zero-rounded}
 use Rattle.vectors.proofs.OwnFraction.{zero-is}
-use Rattle.vectors.proofs.Zeros.{opposite-zeros}
+use Rattle.vectors.proofs.Zeros.{Alike, plus-zero, opposite-zeros, zero-plus}
 
 -- ---- one unit
 not-zero : (x : Float) (s : Bool) (a c : ℕ) → 0 < a → HasValue x s a c → x ≡ fin true 0 (pos 0) → ⊥
@@ -114,3 +116,14 @@ plus-not-zero (fin s m k) (inf t) f g h e = true≢false (sym (ap finite e))
 plus-not-zero (fin false m k) (fin t n d) f g h e = fin-not-zero false t m n k d f g (λ x. absurd (true≢false (sym x))) e
 plus-not-zero (fin true (suc m) k) (fin t n d) f g h e = fin-not-zero true t (suc m) n k d f g (λ x. zero-lt-suc m) e
 plus-not-zero (fin true zero k) (fin t n d) f g h e = h (zero-is true k f)
+
+-- ---- what +0 leaves as it is
+pub sum-kept : (s z : Float) → plusZero ⊕ s ≡ s → T (fits binary64 z) → plusZero ⊕ (s ⊕ z) ≡ s ⊕ z
+sum-kept s z k g = rw plusZero-is (by-sum (zero-plus (s ⊕ z) (add-fits binary64 s z)))
+  where
+    never : s ≡ fin true 0 (pos 0) → ⊥
+    never e = opposite-zeros e (sym k ∙ rw (plusZero-is, e) (plus-zero true))
+
+    by-sum : Alike (s ⊕ z) (fin false 0 (pos 0) ⊕ (s ⊕ z)) → fin false 0 (pos 0) ⊕ (s ⊕ z) ≡ s ⊕ z
+    by-sum (inl e) = sym e
+    by-sum (inr w) = absurd (plus-not-zero s z (subst (λ (x : Float). T (fits binary64 x)) k (add-fits binary64 plusZero s)) g never (w .0))
