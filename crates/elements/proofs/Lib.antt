@@ -1,4 +1,5 @@
 -- The laws that the crates above cite, and the samples.
 pub mod Energy
+pub mod OwnLength
 mod Samples
 mod Theorems

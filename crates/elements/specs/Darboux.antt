@@ -1,4 +1,5 @@
 -- The Darboux vector of two neighbouring edges and its gradient: rod3_darboux.rs, lines 43 to 63 and 165 to 308.
+use mathlib.Core.Path.{_≡_}
 use lib.Ieee.{Float, neg}
 use Rattle.vectors.specs.Number.{_⊕_, _⊖_, _⊗_, _⊘_, plusZero, plusOne}
 use Rattle.vectors.specs.Vec3.{vec3, vec3Add, vec3Sub, vec3Scale, vec3Dot, vec3Norm, vec3Normalize, vec3Cross}
@@ -24,6 +25,17 @@ edgeFrame p0 p1 ux =
     let uz = vec3Normalize v in
     let f : RodFrame = record { x = ux; y = vec3Cross uz ux; z = uz } in
     record { frame = f; length = vec3Norm v }
+
+-- the same lines with len given: it stands for the norm, also in `normalize`, which multiplies by 1 / norm (document 01, "Vectors")
+unfoldable pub edgeFrameOfLength : Vec3 → Vec3 → Vec3 → Float → EdgeFrame
+edgeFrameOfLength p0 p1 ux len =
+    let uz = vec3Scale (vec3Sub p1 p0) (plusOne ⊘ len) in
+    let f : RodFrame = record { x = ux; y = vec3Cross uz ux; z = uz } in
+    record { frame = f; length = len }
+
+-- By the edge's own length it is the edge's frame.
+abbrev pub FrameOfOwnLength : Type 0
+FrameOfOwnLength = (p0 p1 ux : Vec3) (len : Float) → len ≡ vec3Norm (vec3Sub p1 p0) → edgeFrameOfLength p0 p1 ux len ≡ edgeFrame p0 p1 ux
 
 abbrev pub frameAxis : Vec3 → Mat3 → Vec3 → FrameAxis
 frameAxis f dvs dts = record { axis = f; dv = dvs; dt = dts }

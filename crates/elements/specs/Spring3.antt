@@ -20,11 +20,10 @@ stretchBlock stiffness v l ini =
     let t1 = stiffness ⊗ (l ⊖ ini) ⊘ l in
     mat3Add (mat3Scale (mat3ScaledOuterProduct plusOne v v) t0) (mat3Scale mat3Identity t1)
 
--- lines 14 to 27; of the four blocks, m stands on the diagonal and m times -1 beside it (line 25)
-unfoldable pub wdwddwSquaredLengthDifference : Float → Vec3 → Vec3 → Float → Stretch
-wdwddwSquaredLengthDifference stiffness p0 p1 ini =
+-- lines 14 to 27 with l given; of the four blocks, m stands on the diagonal and m times -1 beside it (line 25)
+unfoldable pub stretchOfLength : Float → Vec3 → Vec3 → Float → Float → Stretch
+stretchOfLength stiffness p0 p1 l ini =
     let v = vec3Sub p0 p1 in
-    let l = vec3Norm v in
     let c = ini ⊖ l in
     let m = stretchBlock stiffness v l ini in
     record {
@@ -34,6 +33,14 @@ wdwddwSquaredLengthDifference stiffness p0 p1 ini =
       same = m;
       other = mat3Scale m (neg plusOne);
     }
+
+-- l is the norm of v: line 15
+unfoldable pub wdwddwSquaredLengthDifference : Float → Vec3 → Vec3 → Float → Stretch
+wdwddwSquaredLengthDifference stiffness p0 p1 ini = stretchOfLength stiffness p0 p1 (vec3Norm (vec3Sub p0 p1)) ini
+
+-- By the edge's own length it is the published stretch.
+abbrev pub StretchOfOwnLength : Type 0
+StretchOfOwnLength = (stiffness : Float) (p0 p1 : Vec3) (l ini : Float) → l ≡ vec3Norm (vec3Sub p0 p1) → stretchOfLength stiffness p0 p1 l ini ≡ wdwddwSquaredLengthDifference stiffness p0 p1 ini
 
 -- The energy that the element answers is the one defined alone.
 abbrev pub StretchAnswersEnergy : Type 0

@@ -1,5 +1,6 @@
 -- What is proved of the elements beyond the contracts: each theorem that the documents claim. proofs/Theorems.antt has a proof of every one.
-use Rattle.elements.specs.Spring3.{StretchAnswersEnergy}
+use Rattle.elements.specs.Spring3.{StretchAnswersEnergy, StretchOfOwnLength}
+use Rattle.elements.specs.Darboux.{FrameOfOwnLength}
 use Rattle.elements.specs.Bend.{BendAnswersEnergy}
 use Rattle.elements.specs.SamplesSpring3.{StretchesHold}
 use Rattle.elements.specs.SamplesDarboux.{FramesHold, DarbouxVectorsHold, TurnsHold}
@@ -10,6 +11,10 @@ pub record Theorems : Type 0 where
   pub stretchAnswersEnergy : StretchAnswersEnergy
   -- bend and twist answer `bendEnergy`
   pub bendAnswersEnergy : BendAnswersEnergy
+  -- by an edge's own length the stretch is the published one
+  pub stretchOfOwnLength : StretchOfOwnLength
+  -- and the frame is the edge's
+  pub frameOfOwnLength : FrameOfOwnLength
   -- the samples of stretch, with document 01's P5
   pub stretches : StretchesHold
   -- of frames and their gradients

@@ -8,8 +8,7 @@ use vectors::mat3::Mat3;
 use vectors::vec3;
 use vectors::vec3::Vec3;
 ghost use mathlib.Core.Path.{_≡_};
-ghost use Rattle.vectors.specs.Vec3.{vec3Sub, vec3Norm};
-ghost use Rattle.elements.specs.Darboux.{edgeFrame, rodFrameGradient, noGradient, addGradientOfDotFrameAxis, darbouxDenominator, denominatorGradient, darbouxOf, darbouxRod, combinedGradient, darbouxAxis, cdcOf};
+ghost use Rattle.elements.specs.Darboux.{edgeFrame, edgeFrameOfLength, rodFrameGradient, noGradient, addGradientOfDotFrameAxis, darbouxDenominator, denominatorGradient, darbouxOf, darbouxRod, combinedGradient, darbouxAxis, cdcOf};
 
 // Three vertices and the frame's x axis at each of the two edges between them.
 pub struct Rod {
@@ -67,19 +66,19 @@ pub struct DarbouxGradient {
     pub d2: Gradient,
 }
 
-// The frame of the edge from p0 to p1 whose x axis is x; its length is known, and serves the unit.
-pub fn edge_frame_of_length(p0: Vec3, p1: Vec3, x: Vec3, length: f64) -> EdgeFrame
-    requires { ⌜ length ≡ vec3Norm (vec3Sub p1 p0) ⌝ }
-    ensures { λ r. ⌜ r ≡ edgeFrame p0 p1 x ⌝ }
+// The frame of the edge from p0 to p1 whose x axis is x, by a length that is given: its own, where
+// that is known. It serves the unit.
+pub fn edge_frame_of_length(p0: Vec3, p1: Vec3, x: Vec3, len: f64) -> EdgeFrame
+    ensures { λ r. ⌜ r ≡ edgeFrameOfLength p0 p1 x len ⌝ }
 {
     let z = vec3::sub(p1, p0);
-    let uz = vec3::scale(z, 1.0 / length);
+    let uz = vec3::scale(z, 1.0 / len);
     let frame = RodFrame {
         x,
         y: vec3::cross(uz, x),
         z: uz,
     };
-    EdgeFrame { frame, length }
+    EdgeFrame { frame, length: len }
 }
 
 fn edge_frame(p0: Vec3, p1: Vec3, x: Vec3) -> EdgeFrame
@@ -88,10 +87,10 @@ fn edge_frame(p0: Vec3, p1: Vec3, x: Vec3) -> EdgeFrame
     edge_frame_of_length(p0, p1, x, vec3::norm(vec3::sub(p1, p0)))
 }
 
-pub fn rod_frame_gradient(length: f64, frame: RodFrame) -> FrameGradient
-    ensures { λ r. ⌜ r ≡ rodFrameGradient length frame ⌝ }
+pub fn rod_frame_gradient(len: f64, frame: RodFrame) -> FrameGradient
+    ensures { λ r. ⌜ r ≡ rodFrameGradient len frame ⌝ }
 {
-    let leninv = 1.0 / length;
+    let leninv = 1.0 / len;
     let x = frame.x;
     let y = frame.y;
     let z = frame.z;

@@ -4,8 +4,7 @@ use vectors::mat3::Mat3;
 use vectors::vec3;
 use vectors::vec3::Vec3;
 ghost use mathlib.Core.Path.{_≡_};
-ghost use Rattle.vectors.specs.Vec3.{vec3Sub, vec3Norm};
-ghost use Rattle.elements.specs.Spring3.{stretchBlock, wdwddwSquaredLengthDifference};
+ghost use Rattle.elements.specs.Spring3.{stretchBlock, stretchOfLength, wdwddwSquaredLengthDifference};
 
 // Energy w, its gradients at both ends, and two of the four blocks of second derivatives: `same` for
 // an end with itself, `other` for one end with the other.
@@ -28,7 +27,7 @@ fn stretch_block(stiffness: f64, v: Vec3, l: f64, edge_length_ini: f64) -> Mat3
     mat3::add(mat3::scale(mvv, t0), t2)
 }
 
-// The stretch of an edge whose length l is known.
+// The stretch of an edge by a length l that is given: its own, where that is known.
 pub fn stretch_of_length(
     stiffness: f64,
     p0: Vec3,
@@ -36,8 +35,7 @@ pub fn stretch_of_length(
     l: f64,
     edge_length_ini: f64,
 ) -> Stretch
-    requires { ⌜ l ≡ vec3Norm (vec3Sub p0 p1) ⌝ }
-    ensures { λ r. ⌜ r ≡ wdwddwSquaredLengthDifference stiffness p0 p1 «edge_length_ini» ⌝ }
+    ensures { λ r. ⌜ r ≡ stretchOfLength stiffness p0 p1 l «edge_length_ini» ⌝ }
 {
     let v = vec3::sub(p0, p1);
     let c = edge_length_ini - l;

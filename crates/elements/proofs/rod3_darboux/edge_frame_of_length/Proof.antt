@@ -1,7 +1,6 @@
 -- What the calls promise, put together, is the definition.
 use borrow.Author.Needs.{needs}
-use Rattle.vectors.specs.Vec3.{vec3Normalize}
-use Rattle.elements.specs.Darboux.{edgeFrame}
+use Rattle.elements.specs.Darboux.{edgeFrameOfLength}
 use Rattle.elements.proofs.rod3_darboux.edge_frame_of_length.Statement.{statement}
 use Rattle.elements.proofs.rod3_darboux.edge_frame_of_length.Tie as tie
 
@@ -15,13 +14,12 @@ cross-requires : tie.Need-cross-requires
 cross-requires c κs = search needs
 
 returns : tie.Need-returns
-unfolding edgeFrame vec3Normalize
+unfolding edgeFrameOfLength
 returns c =
     simp (
       c .cross .ensures,
       c .before .scale .ensures,
       c .before .before .sub .ensures,
-      c .before .before .before .pre,
     )
 
 pub edge-frame-of-length-spec : {M : Type 1} → statement M

@@ -1,6 +1,6 @@
 -- What the calls promise, put together, is the definition.
 use borrow.Author.Needs.{needs}
-use Rattle.elements.specs.Spring3.{wdwddwSquaredLengthDifference}
+use Rattle.elements.specs.Spring3.{stretchOfLength}
 use Rattle.elements.specs.Square.{square}
 use Rattle.elements.proofs.spring3.stretch_of_length.Statement.{statement}
 use Rattle.elements.proofs.spring3.stretch_of_length.Tie as tie
@@ -21,7 +21,7 @@ scale-requires-3 : tie.Need-scale-requires-3
 scale-requires-3 c κs = search needs
 
 returns : tie.Need-returns
-unfolding wdwddwSquaredLengthDifference square
+unfolding stretchOfLength square
 returns c =
     simp (
       c .scale3 .ensures,
@@ -29,7 +29,6 @@ returns c =
       c .before .before .scale .ensures,
       c .before .before .before .stretch-block .ensures,
       c .before .before .before .before .sub .ensures,
-      c .before .before .before .before .before .pre,
     )
 
 pub stretch-of-length-spec : {M : Type 1} → statement M
