@@ -5,6 +5,7 @@ pub mod OwnFraction
 pub mod Zeros
 pub mod WholeUnits
 pub mod SquareUnder
+pub mod OneTimes
 pub mod Fitting
 pub mod Series
 pub mod Reversed

@@ -2,6 +2,7 @@
 use Rattle.vectors.specs.Theorems.{Theorems}
 use Rattle.vectors.proofs.Finiteness.{finite-tests}
 use Rattle.vectors.proofs.Fitting.{results-fit}
+use Rattle.vectors.proofs.OneTimes.{one-times}
 use Rattle.vectors.proofs.Reversed.{norm-reversed}
 use Rattle.vectors.proofs.Series.{sine-rule, cosine-rule}
 use Rattle.vectors.proofs.Samples.{samples}
@@ -10,6 +11,7 @@ theorems : Theorems
 theorems = record {
   resultsFit = results-fit;
   finiteTests = finite-tests;
+  oneTimes = one-times;
   normReversed = norm-reversed;
   sineRule = sine-rule;
   cosineRule = cosine-rule;

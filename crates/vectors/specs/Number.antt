@@ -1,8 +1,9 @@
 -- The four operations of binary64, each rounded to nearest, and the two numbers that the formulas name.
 use mathlib.Core.Path.{_≡_, refl}
 use mathlib.Core.Bool.{false}
+use lib.Dec.{T}
 use lib.IntN.{pos}
-use lib.Ieee.{Float, fin, binary64, ofBits, add, sub, mul, div}
+use lib.Ieee.{Float, fin, binary64, ofBits, fits, add, sub, mul, div}
 
 infixl 60 _⊕_
 infixl 60 _⊖_
@@ -34,3 +35,7 @@ plusZero-is = refl
 pub plusOne-is : plusOne ≡ fin false 1 (pos 0)
 unfolding ofBits
 plusOne-is = refl
+
+-- 1 times a value of the format is that value: -0, an infinity and NaN too.
+abbrev pub OneTimes : Type 0
+OneTimes = (x : Float) → T (fits binary64 x) → plusOne ⊗ x ≡ x

@@ -1,4 +1,5 @@
 -- What is proved of vectors, blocks and angles beyond the contracts: each theorem that the documents claim. proofs/Theorems.antt has a proof of every one.
+use Rattle.vectors.specs.Number.{OneTimes}
 use Rattle.vectors.specs.Finite.{FiniteTests}
 use Rattle.vectors.specs.Fits.{ResultsFit}
 use Rattle.vectors.specs.Edge.{NormReversed}
@@ -10,6 +11,8 @@ pub record Theorems : Type 0 where
   pub resultsFit : ResultsFit
   -- what a test for finite numbers says
   pub finiteTests : FiniteTests
+  -- 1 times a number is that number
+  pub oneTimes : OneTimes
   -- an edge is as long from either end
   pub normReversed : NormReversed
   -- the code's table of sine follows the rule of its divisors
