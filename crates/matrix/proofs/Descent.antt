@@ -6,7 +6,7 @@ use Prim.Native.Nat.{ℕ, _≤_}
 use native.Mathlib.Omega.{arith}
 use lib.ListN.{length}
 use lib.Ieee.{Float, neg}
-use Rattle.vectors.specs.Number.{_⊘_}
+use Rattle.vectors.specs.Number.{_⊘_, plusZero, plusOne}
 use Rattle.vectors.specs.declared.vec4.Vec4.{Vec4}
 use Rattle.vectors.specs.declared.mat4.Mat4.{Mat4}
 use Rattle.matrix.specs.Parts.{put}
@@ -20,23 +20,23 @@ use Rattle.matrix.proofs.RowLaws.{length-zeros, zip-tables}
 use Rattle.matrix.proofs.Products.{rows-unstored}
 use Rattle.matrix.proofs.RowsPut.{RowsPut, rows-put, kept, kept-on}
 
-length-product : (n : ℕ) (rows : List (List Mat4)) (x old : List Vec4) → length (multVec n rows x old) ≡ n
+length-product : (n : ℕ) (beta alpha : Float) (rows : List (List Mat4)) (x old : List Vec4) → length (multVec n beta alpha rows x old) ≡ n
 unfolding multVec
-length-product n rows x old = length-table n _
+length-product n beta alpha rows x old = length-table n _
 
 length-sum : (n : ℕ) (w v : List Float) (a b : ℕ) (alpha : Float) → length (addScaledVector (rows4 w a n) alpha (rows4 v b n)) ≡ n
 unfolding addScaledVector rows4
 length-sum n w v a b alpha = ap length (zip-tables _ n _ _) ∙ length-table n _
 
 module _ (n : ℕ) (rho alpha pap q : Float) (w w₁ w₂ w₃ : List Float) (h : (2 ≤ n) × (n ≤ 32)) (long : length w ≡ workNumbers)
-    (e₁ : w₁ ≡ put w placeAp (flat4 (multVec n (matrixRows w n) (rows4 w placeP n) (rows4 w placeAp n))))
+    (e₁ : w₁ ≡ put w placeAp (flat4 (multVec n plusZero plusOne (matrixRows w n) (rows4 w placeP n) (rows4 w placeAp n))))
     (ea : pap ≡ dotRows (rows4 w₁ placeP n) (rows4 w₁ placeAp n))
     (eb : alpha ≡ rho ⊘ pap)
     (e₂ : w₂ ≡ put w₁ placeU (flat4 (addScaledVector (rows4 w₁ placeU n) alpha (rows4 w₁ placeP n))))
     (e₃ : w₃ ≡ put w₂ placeR (flat4 (addScaledVector (rows4 w₂ placeR n) (neg alpha) (rows4 w₂ placeAp n))))
     (eq : q ≡ dotRows (rows4 w₃ placeR n) (rows4 w₃ placeR n)) where
-  c₁ : RowsPut w w₁ placeAp n (multVec n (matrixRows w n) (rows4 w placeP n) (rows4 w placeAp n))
-  c₁ = rows-put w w₁ placeAp n _ e₁ (length-product n _ _ _) (omega arith)
+  c₁ : RowsPut w w₁ placeAp n (multVec n plusZero plusOne (matrixRows w n) (rows4 w placeP n) (rows4 w placeAp n))
+  c₁ = rows-put w w₁ placeAp n _ e₁ (length-product n _ _ _ _ _) (omega arith)
 
   c₂ : RowsPut w₁ w₂ placeU n (addScaledVector (rows4 w₁ placeU n) alpha (rows4 w₁ placeP n))
   c₂ = rows-put w₁ w₂ placeU n _ e₂ (length-sum n w₁ w₁ placeU placeP alpha) (omega (arith, c₁ .stored .long))

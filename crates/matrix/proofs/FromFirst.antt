@@ -1,14 +1,16 @@
 -- To a row without -0 a block's product may be added that is summed from its first term on, in place of the one from +0 on: the sums are the same. A row begins as the old one by 0, which may be -0.
--- So +0 is added first, which the first product makes good. Each law is one of crates/vectors/proofs/Zeros.antt, number by number.
+-- So +0 is added first, which the first product makes good. A product by alpha, which is 1, is the product. Each law is one of crates/vectors/proofs/Zeros.antt, number by number.
 use mathlib.Core.Path.{_≡_, refl, sym, ap, _∙_}
 use mathlib.Core.Bool.{false}
 use mathlib.Core.List.{List, [], _∷_}
-use Rattle.vectors.specs.Number.{_⊕_, plusZero, plusZero-is}
+use lib.Ieee.{Float}
+use Rattle.vectors.specs.Number.{_⊕_, plusZero, plusZero-is, plusOne}
 use Rattle.vectors.specs.Vec4.{vec4Add, vec4Scale}
 use Rattle.vectors.specs.Mat4.{mat4TimesVec4}
 use Rattle.vectors.specs.Fits.{Vec4Fits}
 use Rattle.vectors.specs.declared.vec4.Vec4.{Vec4}
 use Rattle.vectors.specs.declared.mat4.Mat4.{Mat4}
+use Rattle.vectors.proofs.OneTimes.{vec4-by-one}
 use Rattle.vectors.proofs.Fitting.{vec4Scale-fits, mat4TimesVec4-fits}
 use Rattle.vectors.proofs.Zeros.{Alike, alike-plus, alike-sum, plus-turned, plus-zero, zero-plus}
 use Rattle.vectors.proofs.WholeUnits.{sum-kept}
@@ -27,11 +29,11 @@ row-from-zero : (p : Vec4) → Vec4Fits p → AlikeRows p (vec4Add zeroRow p)
 unfolding vec4Add
 row-from-zero p h = rw plusZero-is (zero-plus (p .x) (h .0), zero-plus (p .y) (h .1), zero-plus (p .z) (h .2), zero-plus (p .w) (h .3))
 
-products-plus : {a b : Vec4} (ms : List Mat4) (xs : List Vec4) → AlikeRows a b → AlikeRows (addProducts a ms xs) (addProducts b ms xs)
+products-plus : (alpha : Float) {a b : Vec4} (ms : List Mat4) (xs : List Vec4) → AlikeRows a b → AlikeRows (addProducts alpha a ms xs) (addProducts alpha b ms xs)
 unfolding addProducts
-products-plus [] xs h = h
-products-plus (m ∷ ms) [] h = h
-products-plus (m ∷ ms) (x ∷ xs) h = products-plus ms xs (rows-plus (mat4TimesVec4 m x) h)
+products-plus alpha [] xs h = h
+products-plus alpha (m ∷ ms) [] h = h
+products-plus alpha (m ∷ ms) (x ∷ xs) h = products-plus alpha ms xs (rows-plus (vec4Scale (mat4TimesVec4 m x) alpha) h)
 
 row-turned : (a b : Vec4) → vec4Add a b ≡ vec4Add b a
 unfolding vec4Add
@@ -74,11 +76,15 @@ module _ (a : Mat4) (v : Vec4) where
   unfolding mat4TimesVec4
   product-no-minus = sum-no-minus _ (sum-no-minus _ (sum-no-minus _ (begun-no-minus _ (vec4Scale-fits _ _)) _ (vec4Scale-fits _ _)) _ (vec4Scale-fits _ _)) _ (vec4Scale-fits _ _)
 
+  -- alpha is 1
+  by-alpha : vec4Scale (mat4TimesVec4 a v) plusOne ≡ mat4TimesVec4 a v
+  by-alpha = vec4-by-one (mat4TimesVec4 a v) (mat4TimesVec4-fits a v)
+
   -- what `add_product` works out
-  pub product-added : {s r : Vec4} → NoMinusZero s → r ≡ vec4Add s (timesFromFirst a v) → (r ≡ vec4Add s (mat4TimesVec4 a v)) × NoMinusZero r
+  pub product-added : {s r : Vec4} → NoMinusZero s → r ≡ vec4Add s (timesFromFirst a v) → (r ≡ vec4Add s (vec4Scale (mat4TimesVec4 a v) plusOne)) × NoMinusZero r
   product-added {s} {r} k e =
       let is : r ≡ vec4Add s (mat4TimesVec4 a v) = e ∙ row-turned s (timesFromFirst a v) ∙ rows-sum s k product-alike ∙ row-turned (mat4TimesVec4 a v) s in
-      (is, rw is (sum-no-minus s k (mat4TimesVec4 a v) (mat4TimesVec4-fits a v)))
+      (rw by-alpha is, rw is (sum-no-minus s k (mat4TimesVec4 a v) (mat4TimesVec4-fits a v)))
 
 -- ---- the beginning of a row, in `row_product`
 module _ (old : Vec4) where
@@ -89,6 +95,7 @@ module _ (old : Vec4) where
   begins e h = let is = h ∙ ap (vec4Add zeroRow) e in (is, rw is (begun-no-minus (vec4Scale old plusZero) (vec4Scale-fits old plusZero)))
 
   -- from the first product on the row is the one that begins without +0
-  pub row-begun : (ms ns : List Mat4) (xs ys : List Vec4) (a : Mat4) (v : Vec4)
-      → vec4Add (addProducts (addProducts begun ms xs) ns ys) (mat4TimesVec4 a v) ≡ vec4Add (addProducts (addProducts (vec4Scale old plusZero) ms xs) ns ys) (mat4TimesVec4 a v)
-  row-begun ms ns xs ys a v = sym (rows-sum (mat4TimesVec4 a v) (product-no-minus a v) (products-plus ns ys (products-plus ms xs (row-from-zero (vec4Scale old plusZero) (vec4Scale-fits old plusZero)))))
+  pub row-begun : (alpha : Float) (ms ns : List Mat4) (xs ys : List Vec4) (a : Mat4) (v : Vec4)
+      → vec4Add (addProducts alpha (addProducts alpha begun ms xs) ns ys) (vec4Scale (mat4TimesVec4 a v) plusOne) ≡ vec4Add (addProducts alpha (addProducts alpha (vec4Scale old plusZero) ms xs) ns ys) (vec4Scale (mat4TimesVec4 a v) plusOne)
+  row-begun alpha ms ns xs ys a v =
+      rw (by-alpha a v) (sym (rows-sum (mat4TimesVec4 a v) (product-no-minus a v) (products-plus alpha ns ys (products-plus alpha ms xs (row-from-zero (vec4Scale old plusZero) (vec4Scale-fits old plusZero))))))

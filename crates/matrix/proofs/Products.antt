@@ -6,7 +6,7 @@ use native.Mathlib.Nat.{add-assoc}
 use native.Mathlib.Omega.{arith}
 use lib.ListN.{getD, take, drop}
 use lib.Ieee.{Float, nan}
-use Rattle.vectors.specs.Number.{plusZero}
+use Rattle.vectors.specs.Number.{plusZero, plusOne}
 use Rattle.vectors.specs.Vec4.{vec4Add, vec4Scale}
 use Rattle.vectors.specs.Mat4.{mat4, mat4TimesVec4}
 use Rattle.vectors.specs.declared.vec4.Vec4.{Vec4}
@@ -23,21 +23,25 @@ use Rattle.matrix.proofs.RowPlaces.{before-le, after-le}
 use Rattle.matrix.proofs.FromFirst.{row-begun}
 
 -- none, one or two products, by where their blocks and rows stand
-module _ (m x : List Float) (a b n : ℕ) (s : Vec4) where
-  first : vec4Add s (mat4TimesVec4 (block16 m a) (row4 x b)) ≡ vec4Add s (mat4TimesVec4 (block16 m (a + 0)) (row4 x (b + 0)))
-  first = ap (λ (k : ℕ). vec4Add s (mat4TimesVec4 (block16 m k) (row4 x b))) (omega arith) ∙ ap (λ (k : ℕ). vec4Add s (mat4TimesVec4 (block16 m (a + 0)) (row4 x k))) (omega arith)
+module _ (alpha : Float) (m x : List Float) (a b n : ℕ) (s : Vec4) where
+  -- s and alpha times the product of the block at i and the row at j
+  abbrev plusProduct : ℕ → ℕ → Vec4 → Vec4
+  plusProduct i j s = vec4Add s (vec4Scale (mat4TimesVec4 (block16 m i) (row4 x j)) alpha)
 
-  pub no-products : n ≡ 0 → s ≡ addProducts s (blocks16 m a n) (rows4 x b n)
+  first : plusProduct a b s ≡ plusProduct (a + 0) (b + 0) s
+  first = ap (λ (k : ℕ). plusProduct k b s) (omega arith) ∙ ap (λ (k : ℕ). plusProduct (a + 0) k s) (omega arith)
+
+  pub no-products : n ≡ 0 → s ≡ addProducts alpha s (blocks16 m a n) (rows4 x b n)
   unfolding addProducts blocks16 rows4 table
   no-products e = rw e refl
 
-  pub one-product : {r : Vec4} → n ≡ 1 → r ≡ vec4Add s (mat4TimesVec4 (block16 m a) (row4 x b)) → r ≡ addProducts s (blocks16 m a n) (rows4 x b n)
+  pub one-product : {r : Vec4} → n ≡ 1 → r ≡ plusProduct a b s → r ≡ addProducts alpha s (blocks16 m a n) (rows4 x b n)
   unfolding addProducts blocks16 rows4 table
   one-product e h = rw e (h ∙ first)
 
-  pub two-products : {r t : Vec4} → n ≡ 2 → t ≡ vec4Add s (mat4TimesVec4 (block16 m a) (row4 x b)) → r ≡ vec4Add t (mat4TimesVec4 (block16 m (a + 16)) (row4 x (b + 4))) → r ≡ addProducts s (blocks16 m a n) (rows4 x b n)
+  pub two-products : {r t : Vec4} → n ≡ 2 → t ≡ plusProduct a b s → r ≡ plusProduct (a + 16) (b + 4) t → r ≡ addProducts alpha s (blocks16 m a n) (rows4 x b n)
   unfolding addProducts blocks16 rows4 table
-  two-products e h k = rw e (k ∙ ap (λ (t : Vec4). vec4Add t (mat4TimesVec4 (block16 m (a + 16)) (row4 x (b + 4)))) (h ∙ first))
+  two-products e h k = rw e (k ∙ ap (plusProduct (a + 16) (b + 4)) (h ∙ first))
 
 -- parts of blocks and of rows
 part-blocks : (d : Mat4) (l : List Float) (a k o m b : ℕ) → o + m ≤ k → b ≡ a + 16 * o → part (blocks16 l a k) o m ≡ blocks16 l b m
@@ -58,10 +62,10 @@ row-at = row-of four
 -- what `row_product` works out
 module _ (n i : ℕ) (row x : List Float) (old : Vec4) (h : i < n) where
   pub row-times : {s0 s1 s2 r : Vec4} → s0 ≡ vec4Add zeroRow (vec4Scale old plusZero)
-      → s1 ≡ addProducts s0 (blocks16 row 0 (before i)) (rows4 x (4 * (i - before i)) (before i))
-      → s2 ≡ addProducts s1 (blocks16 row (16 * before i) (after n i)) (rows4 x (4 * (i + 1)) (after n i))
-      → r ≡ vec4Add s2 (mat4TimesVec4 (block16 row (16 * (before i + after n i))) (row4 x (4 * i)))
-      → r ≡ rowTimes n i (blocks16 row 0 (rowLength n i)) (rows4 x 0 n) old
+      → s1 ≡ addProducts plusOne s0 (blocks16 row 0 (before i)) (rows4 x (4 * (i - before i)) (before i))
+      → s2 ≡ addProducts plusOne s1 (blocks16 row (16 * before i) (after n i)) (rows4 x (4 * (i + 1)) (after n i))
+      → r ≡ vec4Add s2 (vec4Scale (mat4TimesVec4 (block16 row (16 * (before i + after n i))) (row4 x (4 * i))) plusOne)
+      → r ≡ rowTimes n i plusZero plusOne (blocks16 row 0 (rowLength n i)) (rows4 x 0 n) old
   unfolding rowTimes rowLength
   row-times e0 e1 e2 e =
       let b = before-le i in
@@ -78,7 +82,7 @@ module _ (n i : ℕ) (row x : List Float) (old : Vec4) (h : i < n) where
         part-rows zeroRow x 0 n (i + 1) (after n i) (4 * (i + 1)) (omega arith) (omega arith),
         block-at zeroBlock row 0 k (before i + after n i) (16 * (before i + after n i)) (omega arith) (omega arith),
         row-at zeroRow x 0 n i (4 * i) h (omega arith),
-      ) (row-begun old _ _ _ _ _ _)
+      ) (row-begun old plusOne _ _ _ _ _ _)
 
 -- ---- a part of the area lent on its own
 row-part : (w : List Float) (o m k : ℕ) → k + 4 ≤ m → row4 (part w o m) k ≡ row4 w (o + k)
@@ -117,8 +121,8 @@ blocks-part w o m n h = table-ext n _ _ (λ i b. columns (0 + 16 * i) (o + 16 * 
 
 -- what `row_times` lends, where at and len are the row's place and its number of blocks
 pub lent-product : (w : List Float) (n i p at len : ℕ) (old r : Vec4) → at ≡ 16 * rowStart n i → len ≡ rowLength n i
-    → r ≡ rowTimes n i (blocks16 (take (at + 16 * len - at) (drop at w)) 0 (rowLength n i)) (rows4 (take (p + 4 * n - p) (drop p w)) 0 n) old
-    → r ≡ rowTimes n i (blocks16 w (16 * rowStart n i) (rowLength n i)) (rows4 w p n) old
+    → r ≡ rowTimes n i plusZero plusOne (blocks16 (take (at + 16 * len - at) (drop at w)) 0 (rowLength n i)) (rows4 (take (p + 4 * n - p) (drop p w)) 0 n) old
+    → r ≡ rowTimes n i plusZero plusOne (blocks16 w (16 * rowStart n i) (rowLength n i)) (rows4 w p n) old
 unfolding part
 lent-product w n i p at len old r es el e = rw (blocks-part w at (at + 16 * len - at) (rowLength n i) (omega arith), rows-part w p (p + 4 * n - p) n (omega arith), es) at e
 
@@ -142,8 +146,8 @@ blocks-unstored s a m h = table-ext m _ _ (λ k b. block-unstored s (a + 16 * k)
 
 -- row k of the product, by where things stand in the area
 abbrev pub rowAt : List Float → ℕ → ℕ → ℕ → ℕ → Vec4
-rowAt w n p ap k = rowTimes n k (blocks16 w (16 * rowStart n k) (rowLength n k)) (rows4 w p n) (row4 w (ap + 4 * k))
+rowAt w n p ap k = rowTimes n k plusZero plusOne (blocks16 w (16 * rowStart n k) (rowLength n k)) (rows4 w p n) (row4 w (ap + 4 * k))
 
-pub product-rows : (w : List Float) (n p ap : ℕ) → table n (rowAt w n p ap) ≡ multVec n (matrixRows w n) (rows4 w p n) (rows4 w ap n)
+pub product-rows : (w : List Float) (n p ap : ℕ) → table n (rowAt w n p ap) ≡ multVec n plusZero plusOne (matrixRows w n) (rows4 w p n) (rows4 w ap n)
 unfolding multVec matrixRows
 product-rows w n p ap = table-ext n _ _ (λ k b. rw (getD-table n (λ (i : ℕ). blocks16 w (16 * rowStart n i) (rowLength n i)) k [] b, row-at zeroRow w ap n k (ap + 4 * k) b refl))

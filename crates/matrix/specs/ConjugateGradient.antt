@@ -33,7 +33,7 @@ pub record Kept (n : ℕ) (w v : List Float) : Type 0 where
 module _ (n : ℕ) (rows : List (List Mat4)) (s : Solving) where
   -- line 242
   unfoldable pub productOf : List Vec4
-  productOf = multVec n rows (s .p) (s .ap)
+  productOf = multVec n plusZero plusOne rows (s .p) (s .ap)
 
   -- lines 243 to 245
   unfoldable pub alphaOf : Float

@@ -1,10 +1,10 @@
--- The product of the matrix and a vector: sparse_square.rs, `mult_vec`, lines 143 to 171, with alpha 1 and beta 0. Multiplying by alpha changes no bit and is left out.
+-- The product of the matrix and a vector, alpha times it and beta times the old one: sparse_square.rs, `mult_vec` of a borrowed matrix, lines 419 to 447.
 use mathlib.Core.Path.{_≡_}
 use mathlib.Core.List.{List, [], _∷_}
 use Prim.Native.Nat.{ℕ, _+_, _-_, _*_}
 use lib.ListN.{getD}
 use lib.Ieee.{Float}
-use Rattle.vectors.specs.Number.{plusZero}
+use Rattle.vectors.specs.Number.{plusZero, plusOne}
 use Rattle.vectors.specs.Vec4.{vec4Add, vec4Scale}
 use Rattle.vectors.specs.Mat4.{mat4TimesVec4}
 use Rattle.vectors.specs.declared.vec4.Vec4.{Vec4}
@@ -13,29 +13,29 @@ use Rattle.matrix.specs.Parts.{part, table}
 use Rattle.matrix.specs.Rows.{zeroRow, zeroBlock, blocks16}
 use Rattle.matrix.specs.Layout.{before, after, rowLength, rowStart}
 
--- s and the products of blocks with rows, upward
-unfoldable pub addProducts : Vec4 → List Mat4 → List Vec4 → Vec4
-addProducts s [] xs = s
-addProducts s (m ∷ ms) [] = s
-addProducts s (m ∷ ms) (x ∷ xs) = addProducts (vec4Add s (mat4TimesVec4 m x)) ms xs
+-- lines 435 to 441: s and alpha times the products of blocks with rows, upward
+unfoldable pub addProducts : Float → Vec4 → List Mat4 → List Vec4 → Vec4
+addProducts alpha s [] xs = s
+addProducts alpha s (m ∷ ms) [] = s
+addProducts alpha s (m ∷ ms) (x ∷ xs) = addProducts alpha (vec4Add s (vec4Scale (mat4TimesVec4 m x) alpha)) ms xs
 
--- Row i of n, with the blocks ms, times xs: the old product by 0, the blocks of the columns before the row's own, those after it, and the diagonal block last.
-unfoldable pub rowTimes : ℕ → ℕ → List Mat4 → List Vec4 → Vec4 → Vec4
-rowTimes n i ms xs old =
+-- Row i of n, with the blocks ms, times xs: the old product by beta (line 432), the blocks of the columns before the row's own, those after it, and the diagonal block last (lines 442 to 445).
+unfoldable pub rowTimes : ℕ → ℕ → Float → Float → List Mat4 → List Vec4 → Vec4 → Vec4
+rowTimes n i beta alpha ms xs old =
     let low = before i in
     let high = after n i in
-    let s0 = vec4Scale old plusZero in
-    let s1 = addProducts s0 (part ms 0 low) (part xs (i - low) low) in
-    let s2 = addProducts s1 (part ms low high) (part xs (i + 1) high) in
-    vec4Add s2 (mat4TimesVec4 (getD ms (low + high) zeroBlock) (getD xs i zeroRow))
+    let s0 = vec4Scale old beta in
+    let s1 = addProducts alpha s0 (part ms 0 low) (part xs (i - low) low) in
+    let s2 = addProducts alpha s1 (part ms low high) (part xs (i + 1) high) in
+    vec4Add s2 (vec4Scale (mat4TimesVec4 (getD ms (low + high) zeroBlock) (getD xs i zeroRow)) alpha)
 
 -- The rows of the matrix that stands at the beginning of the area l.
 unfoldable pub matrixRows : List Float → ℕ → List (List Mat4)
 matrixRows l n = table n (λ i. blocks16 l (16 * rowStart n i) (rowLength n i))
 
--- The product, row by row, from the old one.
-unfoldable pub multVec : ℕ → List (List Mat4) → List Vec4 → List Vec4 → List Vec4
-multVec n rows xs olds = table n (λ i. rowTimes n i (getD rows i []) xs (getD olds i zeroRow))
+-- `mult_vec`, row by row, from the old product.
+unfoldable pub multVec : ℕ → Float → Float → List (List Mat4) → List Vec4 → List Vec4 → List Vec4
+multVec n beta alpha rows xs olds = table n (λ i. rowTimes n i beta alpha (getD rows i []) xs (getD olds i zeroRow))
 
 -- The product of a block and a row, each entry summed from its first term on and not from +0.
 unfoldable pub timesFromFirst : Mat4 → Vec4 → Vec4
@@ -48,9 +48,9 @@ timesFromFirst a v =
 abbrev pub NoMinusZero : Vec4 → Type 0
 NoMinusZero v = vec4Add zeroRow v ≡ v
 
--- To a row without -0 a product may be added that is summed from its first term on: the sum is the same, and has no -0 either.
+-- To a row without -0 a product may be added that is summed from its first term on, and not taken by alpha 1: the sum is the same, and has no -0 either.
 abbrev pub AddedFromFirst : Type 0
-AddedFromFirst = (a : Mat4) (v s r : Vec4) → NoMinusZero s → r ≡ vec4Add s (timesFromFirst a v) → (r ≡ vec4Add s (mat4TimesVec4 a v)) × NoMinusZero r
+AddedFromFirst = (a : Mat4) (v s r : Vec4) → NoMinusZero s → r ≡ vec4Add s (timesFromFirst a v) → (r ≡ vec4Add s (vec4Scale (mat4TimesVec4 a v) plusOne)) × NoMinusZero r
 
 -- A row that begins as the old one by 0, added to +0, has no -0.
 abbrev pub BegunFromZero : Type 0
@@ -58,5 +58,6 @@ BegunFromZero = (old s r : Vec4) → s ≡ vec4Scale old plusZero → r ≡ vec4
 
 -- A row that begins so is in the end the one that begins without +0.
 abbrev pub EndsTheSame : Type 0
-EndsTheSame = (old : Vec4) (ms ns : List Mat4) (xs ys : List Vec4) (a : Mat4) (v : Vec4)
-    → vec4Add (addProducts (addProducts (vec4Add zeroRow (vec4Scale old plusZero)) ms xs) ns ys) (mat4TimesVec4 a v) ≡ vec4Add (addProducts (addProducts (vec4Scale old plusZero) ms xs) ns ys) (mat4TimesVec4 a v)
+EndsTheSame = (old : Vec4) (alpha : Float) (ms ns : List Mat4) (xs ys : List Vec4) (a : Mat4) (v : Vec4)
+    → vec4Add (addProducts alpha (addProducts alpha (vec4Add zeroRow (vec4Scale old plusZero)) ms xs) ns ys) (vec4Scale (mat4TimesVec4 a v) plusOne)
+    ≡ vec4Add (addProducts alpha (addProducts alpha (vec4Scale old plusZero) ms xs) ns ys) (vec4Scale (mat4TimesVec4 a v) plusOne)

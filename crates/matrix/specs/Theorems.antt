@@ -36,8 +36,8 @@ pub record Theorems : Type 0 where
   pub allBlocks : AllBlocks
   -- a place belongs to one pair of row and column
   pub onePair : OnePair
-  -- ---- the product may leave out the +0 that its sums begin with
-  -- each block's product may be summed from its first term on
+  -- ---- the product may leave out the +0 that its sums begin with, and alpha 1
+  -- each block's product may be summed from its first term on, and added as it is
   pub addedFromFirst : AddedFromFirst
   -- since a row that begins from +0 has no -0
   pub begunFromZero : BegunFromZero

@@ -7,7 +7,8 @@ use vectors::vec4::Vec4;
 ghost use mathlib.Core.Path.{_≡_};
 ghost use Prim.Native.Nat.{_+_, _*_, _≤_, _<_};
 ghost use lib.ListN.{length};
-ghost use Rattle.vectors.specs.Vec4.{vec4Add};
+ghost use Rattle.vectors.specs.Number.{plusZero, plusOne};
+ghost use Rattle.vectors.specs.Vec4.{vec4Add, vec4Scale};
 ghost use Rattle.vectors.specs.Mat4.{mat4TimesVec4};
 ghost use Rattle.matrix.specs.Parts.{put, Apart};
 ghost use Rattle.matrix.specs.Rows.{row4, rows4, block16, blocks16, flat4};
@@ -29,12 +30,13 @@ fn block_product(a: Mat4, v: Vec4) -> Vec4
 }
 
 // s and the product of the block of m that begins at `at` with the row of x that begins at `from`.
-// As s has no -0, its sums with -0 and with +0 are the same.
+// As s has no -0, its sums with -0 and with +0 are the same. The product by alpha, which is 1, is the
+// product.
 fn add_product(m: &[f64], at: usize, x: &[f64], from: usize, s: Vec4) -> Vec4
     requires { ⌜ NoMinusZero s ⌝ }
     requires { ⌜ at + 16 ≤ length (now m) ⌝ }
     requires { ⌜ from + 4 ≤ length (now x) ⌝ }
-    ensures { λ r. ⌜ r ≡ vec4Add s (mat4TimesVec4 (block16 (now (m .entry)) at) (row4 (now (x .entry)) from)) ⌝ }
+    ensures { λ r. ⌜ r ≡ vec4Add s (vec4Scale (mat4TimesVec4 (block16 (now (m .entry)) at) (row4 (now (x .entry)) from)) plusOne) ⌝ }
     ensures { λ r. ⌜ NoMinusZero r ⌝ }
 {
     let b = rows::load_block(m, at);
@@ -48,7 +50,7 @@ fn add_before(row: &[f64], x: &[f64], from: usize, low: usize, y: Vec4) -> Vec4
     requires { ⌜ low ≤ 2 ⌝ }
     requires { ⌜ 16 * low ≤ length (now row) ⌝ }
     requires { ⌜ from + 4 * low ≤ length (now x) ⌝ }
-    ensures { λ r. ⌜ r ≡ addProducts y (blocks16 (now (row .entry)) 0 low) (rows4 (now (x .entry)) from low) ⌝ }
+    ensures { λ r. ⌜ r ≡ addProducts plusOne y (blocks16 (now (row .entry)) 0 low) (rows4 (now (x .entry)) from low) ⌝ }
     ensures { λ r. ⌜ NoMinusZero r ⌝ }
 {
     if low == 0 {
@@ -68,7 +70,7 @@ fn add_after(row: &[f64], at: usize, x: &[f64], from: usize, high: usize, y: Vec
     requires { ⌜ high ≤ 2 ⌝ }
     requires { ⌜ at + 16 * high ≤ length (now row) ⌝ }
     requires { ⌜ from + 4 * high ≤ length (now x) ⌝ }
-    ensures { λ r. ⌜ r ≡ addProducts y (blocks16 (now (row .entry)) at high) (rows4 (now (x .entry)) from high) ⌝ }
+    ensures { λ r. ⌜ r ≡ addProducts plusOne y (blocks16 (now (row .entry)) at high) (rows4 (now (x .entry)) from high) ⌝ }
     ensures { λ r. ⌜ NoMinusZero r ⌝ }
 {
     if high == 0 {
@@ -88,7 +90,7 @@ fn row_product(row: &[f64], x: &[f64], n: usize, i: usize, old: Vec4) -> Vec4
     requires { ⌜ n ≤ 32 ⌝ }
     requires { ⌜ 16 * rowLength n i ≤ length (now row) ⌝ }
     requires { ⌜ 4 * n ≤ length (now x) ⌝ }
-    ensures { λ r. ⌜ r ≡ rowTimes n i (blocks16 (now (row .entry)) 0 (rowLength n i)) (rows4 (now (x .entry)) 0 n) old ⌝ }
+    ensures { λ r. ⌜ r ≡ rowTimes n i plusZero plusOne (blocks16 (now (row .entry)) 0 (rowLength n i)) (rows4 (now (x .entry)) 0 n) old ⌝ }
 {
     let low = layout::count_before(i);
     let high = layout::count_after(n, i);
@@ -114,7 +116,7 @@ fn row_times(work: &[f64], n: usize, i: usize, at: usize, p: usize, ap: usize) -
     requires { ⌜ matrixNumbers ≤ length (now work) ⌝ }
     requires { ⌜ p + 4 * n ≤ length (now work) ⌝ }
     requires { ⌜ ap + 4 * n ≤ length (now work) ⌝ }
-    ensures { λ r. ⌜ r ≡ rowTimes n i (blocks16 (now (work .entry)) (16 * rowStart n i) (rowLength n i)) (rows4 (now (work .entry)) p n) (row4 (now (work .entry)) (ap + 4 * i)) ⌝ }
+    ensures { λ r. ⌜ r ≡ rowTimes n i plusZero plusOne (blocks16 (now (work .entry)) (16 * rowStart n i) (rowLength n i)) (rows4 (now (work .entry)) p n) (row4 (now (work .entry)) (ap + 4 * i)) ⌝ }
 {
     let e = at + 16 * layout::row_length(n, i);
     let pe = p + 4 * n;
@@ -129,7 +131,7 @@ pub fn mult_vec(work: &mut [f64], n: usize, p: usize, ap: usize)
     requires { ⌜ p + 4 * n ≤ length (now work) ⌝ }
     requires { ⌜ ap + 4 * n ≤ length (now work) ⌝ }
     requires { ⌜ Apart ap (4 * n) p (4 * n) ⌝ }
-    ensures { λ _. ⌜ now (work .exit) ≡ put (now (work .entry)) ap (flat4 (multVec n (matrixRows (now (work .entry)) n) (rows4 (now (work .entry)) p n) (rows4 (now (work .entry)) ap n))) ⌝ }
+    ensures { λ _. ⌜ now (work .exit) ≡ put (now (work .entry)) ap (flat4 (multVec n plusZero plusOne (matrixRows (now (work .entry)) n) (rows4 (now (work .entry)) p n) (rows4 (now (work .entry)) ap n))) ⌝ }
 {
     let mut at = 0;
     let mut i = 0;
