@@ -25,5 +25,4 @@ pub mod Iterations
 pub mod Going
 pub mod AreaMap
 mod Samples
-pub mod Runs
 mod Theorems

@@ -6,7 +6,6 @@ use Rattle.matrix.proofs.RowPlaces.{placed, all-blocks}
 use Rattle.matrix.proofs.Columns.{place-injective}
 use Rattle.matrix.proofs.FromFirst.{product-added, begins, row-begun}
 use Rattle.matrix.proofs.Iterations.{small-start, first-below, one-answer}
-use Rattle.matrix.proofs.Runs.{same-answers}
 use Rattle.matrix.proofs.RootBound.{zero-bounds, above-square-bounds, infinity-bounds, in-place}
 use Rattle.matrix.proofs.Samples.{energy, assembled, loads, pins, product, limited, converged}
 
@@ -24,7 +23,6 @@ theorems = record {
   smallStart = small-start;
   solveIsFirstBelow = first-below;
   oneAnswer = one-answer;
-  sameAnswers = same-answers;
   zeroBounds = zero-bounds;
   aboveSquareBounds = above-square-bounds;
   infinityBounds = infinity-bounds;

@@ -15,7 +15,6 @@ pub mod Loads
 pub mod ConjugateGradient
 pub mod RootBound
 pub mod Iterations
-pub mod Runs
 pub mod Opened
 pub mod Written
 pub mod SamplesSystem

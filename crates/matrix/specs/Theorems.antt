@@ -2,18 +2,14 @@
 use mathlib.Core.List.{List}
 use Prim.Native.Nat.{ℕ}
 use lib.Ieee.{Float}
-use Rattle.vectors.specs.declared.vec3.Vec3.{Vec3}
 use Rattle.vectors.specs.declared.vec4.Vec4.{Vec4}
 use Rattle.vectors.specs.declared.mat4.Mat4.{Mat4}
 use Rattle.matrix.specs.Parts.{StoredInside, OldOutside}
 use Rattle.matrix.specs.Layout.{RowStartPlaced, AllBlocks, OnePair}
 use Rattle.matrix.specs.Area.{Consecutive}
 use Rattle.matrix.specs.SparseSquare.{AddedFromFirst, BegunFromZero, EndsTheSame}
-use Rattle.matrix.specs.System.{System}
-use Rattle.matrix.specs.HairSystem.{Shape}
 use Rattle.matrix.specs.RootBound.{ZeroBounds, AboveSquareBounds, InfinityBounds, InfinityInPlace}
 use Rattle.matrix.specs.Iterations.{SmallStart, SolveIsFirstBelow, OneAnswer}
-use Rattle.matrix.specs.Runs.{SameAnswers}
 use Rattle.matrix.specs.SamplesSystem.{EnergyHolds, AssemblyHolds, LoadsHold, PinsHold}
 use Rattle.matrix.specs.SamplesSolve.{ProductHolds, LimitedHolds, ConvergedHolds}
 
@@ -50,8 +46,6 @@ pub record Theorems : Type 0 where
   pub solveIsFirstBelow : OfEverySolve SolveIsFirstBelow
   -- that determines the answer
   pub oneAnswer : OfEverySolve OneAnswer
-  -- two runs with the same inputs answer the same, whatever their areas held before
-  pub sameAnswers : (n : ℕ) (rest : Shape) (stretch : Float) (bend : Vec3) (load : System → System) (pins : List ℕ) (tolerance : Float) (limit : ℕ) → SameAnswers n rest stretch bend load pins tolerance limit
   -- ---- when the solve takes a root: no number from the bound on has one below the tolerance
   -- the bound is 0 for a tolerance that is not above 0
   pub zeroBounds : ZeroBounds
