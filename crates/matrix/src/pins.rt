@@ -39,7 +39,7 @@ fn row_unless_fixed(pins: &[u8], at: usize, v: Vec4) -> Vec4
 }
 
 // The vector at `to` gets 0 where the pins of its n vertices pin.
-pub fn set_fix_dof_to_rhs_vector(work: &mut [f64], to: usize, pins: &[u8], n: usize)
+pub(crate) fn set_fix_dof_to_rhs_vector(work: &mut [f64], to: usize, pins: &[u8], n: usize)
     requires { ⌜ to + 4 * n ≤ length (now work) ⌝ }
     requires { ⌜ 4 * n ≤ length (now pins) ⌝ }
     ensures { λ _. ⌜ now (work .exit) ≡ put (now (work .entry)) to (flat4 (setFixDofToRhsVector n (now (pins .entry)) (rows4 (now (work .entry)) to n))) ⌝ }
@@ -148,7 +148,7 @@ fn fix_row(work: &mut [f64], pins: &[u8], n: usize, i: usize)
 
 // The matrix of n vertices gets 0 in the rows and the columns of pinned numbers, and 1 where such a
 // row and its own column meet. The gradient stays, and so does what stands after the vectors.
-pub fn set_fixed_bc(work: &mut [f64], pins: &[u8], n: usize)
+pub(crate) fn set_fixed_bc(work: &mut [f64], pins: &[u8], n: usize)
     requires { ⌜ (2 ≤ n) × (n ≤ 32) ⌝ }
     requires { ⌜ 4 * n ≤ length (now pins) ⌝ }
     requires { ⌜ length (now work) ≡ workNumbers ⌝ }

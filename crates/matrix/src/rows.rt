@@ -34,7 +34,7 @@ pub fn load4(work: &[f64], at: usize) -> Vec4
 }
 
 // The block that begins at `at`.
-pub fn load_block(work: &[f64], at: usize) -> Mat4
+pub(crate) fn load_block(work: &[f64], at: usize) -> Mat4
     requires { ⌜ at + 16 ≤ length (now work) ⌝ }
     ensures { λ r. ⌜ r ≡ block16 (now (work .entry)) at ⌝ }
 {
@@ -57,7 +57,7 @@ pub fn store3(area: &mut [f64], at: usize, v: Vec3)
 }
 
 // v becomes the row that begins at `at`.
-pub fn store4(work: &mut [f64], at: usize, v: Vec4)
+pub(crate) fn store4(work: &mut [f64], at: usize, v: Vec4)
     requires { ⌜ at + 4 ≤ length (now work) ⌝ }
     ensures { λ _. ⌜ now (work .exit) ≡ put (now (work .entry)) at (numbers4 v) ⌝ }
 {
@@ -68,7 +68,7 @@ pub fn store4(work: &mut [f64], at: usize, v: Vec4)
 }
 
 // m becomes the block that begins at `at`.
-pub fn store_block(work: &mut [f64], at: usize, m: Mat4)
+pub(crate) fn store_block(work: &mut [f64], at: usize, m: Mat4)
     requires { ⌜ at + 16 ≤ length (now work) ⌝ }
     ensures { λ _. ⌜ now (work .exit) ≡ put (now (work .entry)) at (numbers16 m) ⌝ }
 {

@@ -57,7 +57,7 @@ pub fn is_finite(energy: f64, work: &[f64], n: usize) -> bool
 }
 
 // v added to the gradient of vertex i.
-pub fn add_gradient(work: &mut [f64], n: usize, i: usize, v: Vec4)
+pub(crate) fn add_gradient(work: &mut [f64], n: usize, i: usize, v: Vec4)
     requires { ⌜ (2 ≤ n) × (n ≤ 32) ⌝ }
     requires { ⌜ i < n ⌝ }
     requires { ⌜ length (now work) ≡ workNumbers ⌝ }
@@ -70,7 +70,7 @@ pub fn add_gradient(work: &mut [f64], n: usize, i: usize, v: Vec4)
 }
 
 // m added to the block of row i and column j.
-pub fn add_block(work: &mut [f64], n: usize, i: usize, j: usize, m: Mat4)
+pub(crate) fn add_block(work: &mut [f64], n: usize, i: usize, j: usize, m: Mat4)
     requires { ⌜ (2 ≤ n) × (n ≤ 32) ⌝ }
     requires { ⌜ Near n i j ⌝ }
     requires { ⌜ length (now work) ≡ workNumbers ⌝ }
@@ -114,7 +114,7 @@ fn diagonal_plus(m: Mat4, c: f64) -> Mat4
 }
 
 // c added to the diagonal block of every vertex.
-pub fn add_to_diagonals(work: &mut [f64], n: usize, c: f64)
+pub(crate) fn add_to_diagonals(work: &mut [f64], n: usize, c: f64)
     requires { ⌜ (2 ≤ n) × (n ≤ 32) ⌝ }
     requires { ⌜ length (now work) ≡ workNumbers ⌝ }
     ensures { λ _. ⌜ systemAt n (now (work .exit)) ≡ withDiagonal n c (systemAt n (now (work .entry))) ⌝ }
