@@ -71,7 +71,7 @@ module _ (t : Strand) (w : Whole t) where
 
 -- ---- with the solution of the step
 abbrev solutionOf : Strand → Pick → Time → List Vec4
-solutionOf t pick time = solved (t .count) (t .pins) (t .settings .«conv_ratio») (begunOf t pick time .system) .solution
+solutionOf t pick time = solved (t .count) (t .pins) (t .settings .«conv_ratio») (begunOf t pick time .system) .left .u
 
 pub static-keeps : StaticKeeps
 unfolding updateOf begunWith shapeBy drapeAfter

@@ -52,7 +52,7 @@ module _ (t : Strand) (pick : Pick) (time : Time) where
     -- ---- a step that does: o is what the solve found, and v the work area after it
     module _ (z : k ≡ 0) (v : List Float) (o : Outcome) (a : afterVectors v ≡ afterVectors w) (q : o ≡ solved (t .count) (t .pins) (t .settings .«conv_ratio») (systemAt (t .count) w)) where
       abbrev drapeOn : List Float
-      drapeOn = drapeAfter time (t .count) (t .pins) (t .drape) (updateSolutionHair (t .count) (t .pins) (stagedShape (t .count) v) (o .solution))
+      drapeOn = drapeAfter time (t .count) (t .pins) (t .drape) (updateSolutionHair (t .count) (t .pins) (stagedShape (t .count) v) (o .left .u))
 
       abbrev rowsOn : List Row
       rowsOn = finishRows (t .count) (t .pins) (stagedShape (t .count) v) o drapeOn

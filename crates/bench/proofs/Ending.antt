@@ -17,11 +17,11 @@ module _ (n : ℕ) (pins : List ℕ) (now : Shape) (o : Outcome) (d : List Float
   ends-nine h = rw h
 
   module _ (h : outcomeIsFinite o ≡ true) where
-    pub ends-ten : turnsFit n pins now (o .solution) ≡ false → first (finishRows n pins now o d) ≡ 10
+    pub ends-ten : turnsFit n pins now (o .left .u) ≡ false → first (finishRows n pins now o d) ≡ 10
     unfolding finishRows first every
     ends-ten g = rw (h, g)
 
-    module _ (g : turnsFit n pins now (o .solution) ≡ true) where
+    module _ (g : turnsFit n pins now (o .left .u) ≡ true) where
       pub ends-eleven : drapeIsFinite n d ≡ false → first (finishRows n pins now o d) ≡ 11
       unfolding finishRows first every
       ends-eleven f = rw (h, g, f)

@@ -175,7 +175,7 @@ drapeAfter (over dt) n pins d s = dynamicDrape dt n pins d s
 
 -- "a solution number or the last ratio not finite" is declined with 9
 unfoldable pub outcomeIsFinite : Outcome → Bool
-outcomeIsFinite o = isFinite (o .ratio) && every vec4IsFinite (o .solution)
+outcomeIsFinite o = isFinite (o .ratio) && every vec4IsFinite (o .left .u)
 
 -- "a drape position, frame number or velocity of the n vertices .. not finite" is declined with 11
 unfoldable pub drapeIsFinite : ℕ → List Float → Bool
@@ -183,7 +183,7 @@ drapeIsFinite n d = every isFinite (part d placePositions (3 * n)) && every isFi
 
 -- now is the shape that the solve o was of, d the drape that the step would leave; "some turned edge has 1+c < 2^-20" is 10
 unfoldable pub finishRows : ℕ → List ℕ → Shape → Outcome → List Float → List Row
-finishRows n pins now o d = unless 9 (outcomeIsFinite o ∷ []) ∷ unless 10 (turnsFit n pins now (o .solution) ∷ []) ∷ unless 11 (drapeIsFinite n d ∷ []) ∷ []
+finishRows n pins now o d = unless 9 (outcomeIsFinite o ∷ []) ∷ unless 10 (turnsFit n pins now (o .left .u) ∷ []) ∷ unless 11 (drapeIsFinite n d ∷ []) ∷ []
 
 -- ---- the whole step
 
@@ -200,7 +200,7 @@ updateOf t pick time =
     let n : ℕ = t .count in
     let b : Begun = begunWith time n (t .settings) (t .rest) pick (shapeBy time n (t .pins) (t .drape)) in
     let o : Outcome = solved n (t .pins) (t .settings .«conv_ratio») (b .system) in
-    let d : List Float = drapeAfter time n (t .pins) (t .drape) (updateSolutionHair n (t .pins) (b .now) (o .solution)) in
+    let d : List Float = drapeAfter time n (t .pins) (t .drape) (updateSolutionHair n (t .pins) (b .now) (o .left .u)) in
     record { rows = beginRows n b ++ finishRows n (t .pins) (b .now) o d; energy = b .energy; ratio = o .ratio; count = o .count; drape = d }
 
 -- ---- a step and its parts, by the number k that it is refused with

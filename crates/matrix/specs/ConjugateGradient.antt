@@ -13,7 +13,18 @@ use Rattle.matrix.specs.Area.{placeR, placeU, placeP, placeAp, afterVect
 use Rattle.matrix.specs.SliceOfArray.{zeroRows, dotRows, addScaledVector, scaleAndAddVec}
 use Rattle.matrix.specs.SparseSquare.{matrixRows, multVec}
 
--- The residual, the solution, the direction, its product with the matrix as last worked out, and the residual's square.
+-- The residual, the solution, the direction and its product with the matrix as last worked out.
+pub record Vectors : Type 0 where
+  pub r : List Vec4
+  pub u : List Vec4
+  pub p : List Vec4
+  pub ap : List Vec4
+
+-- As they stand in the area w.
+abbrev pub vectorsAt : ℕ → List Float → Vectors
+vectorsAt n w = record { r = rows4 w placeR n; u = rows4 w placeU n; p = rows4 w placeP n; ap = rows4 w placeAp n }
+
+-- The vectors, and the residual's square.
 pub record Solving : Type 0 where
   pub r : List Vec4
   pub u : List Vec4
@@ -21,7 +32,10 @@ pub record Solving : Type 0 where
   pub ap : List Vec4
   pub rho : Float
 
--- As they stand in the area w, with the square beside it.
+abbrev pub vectorsOf : Solving → Vectors
+vectorsOf s = record { r = s .r; u = s .u; p = s .p; ap = s .ap }
+
+-- The vectors of the area w, with the square beside it.
 unfoldable pub solvingAt : ℕ → List Float → Float → Solving
 solvingAt n w rho = record { r = rows4 w placeR n; u = rows4 w placeU n; p = rows4 w placeP n; ap = rows4 w placeAp n; rho = rho }
 
@@ -51,39 +65,40 @@ module _ (n : ℕ) (rows : List (List Mat4)) (s : Solving) where
 unfoldable pub redirected : Float → Solving → Solving
 redirected rho s = record { r = s .r; u = s .u; p = scaleAndAddVec (s .p) (s .rho ⊘ rho) (s .r); ap = s .ap; rho = s .rho }
 
--- lines 233 to 239: from the residual r
+-- lines 233 to 239, from the residual r; that ap begins as +0 is document 01's ("Solve"), and so rod3_darboux.rs has it, lines 1154 and 1234
 unfoldable pub started : ℕ → List Vec4 → Solving
 started n r = record { r = r; u = zeroRows n; p = r; ap = zeroRows n; rho = dotRows r r }
 
--- What the solve answers: the solution, the number of iterations and the last ratio.
+-- What the solve leaves and answers: the vectors after its last iteration, the number of iterations and the last ratio.
 pub record Outcome : Type 0 where
-  pub solution : List Vec4
+  pub left : Vectors
   pub count : ℕ
   pub ratio : Float
 
-abbrev pub outcome : List Vec4 → ℕ → Float → Outcome
-outcome u k x = record { solution = u; count = k; ratio = x }
+abbrev pub outcome : Vectors → ℕ → Float → Outcome
+outcome v k x = record { left = v; count = k; ratio = x }
 
 module _ (n : ℕ) (rows : List (List Mat4)) (inverse tolerance : Float) where
   -- line 249
   unfoldable pub ratioOf : Float → Float
   ratioOf rho = sqrtOf (rho ⊗ inverse)
 
-  -- lines 240 to 260: o is the answer if the solve stops here, s the state for the next of the iterations that are left.
+  -- lines 240 to 260. Before the next of the iterations that are left: whether the last ratio is below the tolerance, the outcome if so, and the state that it else goes on from.
   unfoldable pub iterated : ℕ → Bool → Outcome → Solving → Outcome
-  iterated zero stop o s = o
+  iterated zero true o s = o
+  iterated zero false o s = outcome (vectorsOf s) (o .count) (o .ratio)
   iterated (suc left) true o s = o
   iterated (suc left) false o s =
       let t = descended n rows s in
       let x = ratioOf (t .rho) in
-      iterated left (lt x tolerance) (outcome (t .u) (o .count + 1) x) (redirected (s .rho) t)
+      iterated left (lt x tolerance) (outcome (vectorsOf t) (o .count + 1) x) (redirected (s .rho) t)
 
 -- 2^-52, line 235
 abbrev pub epsilon : Float
 epsilon = ofBits binary64 0x3cb0_0000_0000_0000
 
--- `conjugate_gradient`: a start whose square is below 2^-52 stops with 0 iterations, ratio 0 and solution +0.
+-- `conjugate_gradient`: a start whose square is below 2^-52 ends the solve with 0 iterations, ratio 0 and solution +0. The direction is then the residual; the Rust leaves what stood there.
 unfoldable pub conjugateGradient : ℕ → List (List Mat4) → Float → ℕ → List Vec4 → Outcome
 conjugateGradient n rows tolerance limit r =
     let s = started n r in
-    iterated n rows (plusOne ⊘ s .rho) tolerance limit (lt (s .rho) epsilon) (outcome (zeroRows n) 0 plusZero) s
+    iterated n rows (plusOne ⊘ s .rho) tolerance limit (lt (s .rho) epsilon) (outcome (vectorsOf s) 0 plusZero) s

@@ -37,4 +37,4 @@ systemNumbers s = flat4 (s .gradient) ++ blockNumbers (s .rows)
 
 -- Whether a solve answers so: the count, the ratio's bits and the solution's.
 abbrev pub hasOutcome : Outcome → ℕ → ℕ → List ℕ → Bool
-hasOutcome o k x u = eqb (o .count) k && haveBits (o .ratio ∷ flat4 (o .solution)) (x ∷ u)
+hasOutcome o k x u = eqb (o .count) k && haveBits (o .ratio ∷ flat4 (o .left .u)) (x ∷ u)

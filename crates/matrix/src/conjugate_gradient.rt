@@ -9,9 +9,9 @@ ghost use lib.ListN.{length};
 ghost use mathlib.Core.Bool.{false};
 ghost use Rattle.vectors.specs.Number.{_⊘_, plusZero, plusOne};
 ghost use Rattle.matrix.specs.Rows.{rows4};
-ghost use Rattle.matrix.specs.Area.{placeR, placeU, workNumbers};
+ghost use Rattle.matrix.specs.Area.{placeR, workNumbers};
 ghost use Rattle.matrix.specs.SparseSquare.{matrixRows};
-ghost use Rattle.matrix.specs.ConjugateGradient.{Kept, solvingAt, started, descended, redirected, outcome, iterated, conjugateGradient};
+ghost use Rattle.matrix.specs.ConjugateGradient.{Kept, vectorsAt, solvingAt, started, descended, redirected, outcome, iterated, conjugateGradient};
 
 // 2^-52: a residual whose square is below it counts as 0.
 const EPSILON: f64 = 2.220446049250313e-16;
@@ -64,7 +64,7 @@ fn begin(work: &mut [f64], n: usize) -> f64
 fn iterate(work: &mut [f64], n: usize, first: f64, tolerance: f64, limit: usize) -> Solve
     requires { ⌜ (2 ≤ n) × (n ≤ 32) ⌝ }
     requires { ⌜ length (now work) ≡ workNumbers ⌝ }
-    ensures { λ a. ⌜ outcome (rows4 (now (work .exit)) placeU n) (a .count) (a .ratio) ≡ iterated n (matrixRows (now (work .entry)) n) (plusOne ⊘ first) tolerance limit false (outcome (rows4 (now (work .entry)) placeU n) 0 plusZero) (solvingAt n (now (work .entry)) first) ⌝ }
+    ensures { λ a. ⌜ outcome (vectorsAt n (now (work .exit))) (a .count) (a .ratio) ≡ iterated n (matrixRows (now (work .entry)) n) (plusOne ⊘ first) tolerance limit false (outcome (vectorsAt n (now (work .entry))) 0 plusZero) (solvingAt n (now (work .entry)) first) ⌝ }
     ensures { λ _. ⌜ Kept n (now (work .entry)) (now (work .exit)) ⌝ }
 {
     let inverse = 1.0 / first;
@@ -89,11 +89,12 @@ fn iterate(work: &mut [f64], n: usize, first: f64, tolerance: f64, limit: usize)
     }
 }
 
-// The solution, for the residual and the matrix that stand in the area, is left at U.
+// The solution, for the residual and the matrix that stand in the area, is left at U; residual,
+// direction and product as the last iteration leaves them.
 pub fn conjugate_gradient(work: &mut [f64], n: usize, tolerance: f64, limit: usize) -> Solve
     requires { ⌜ (2 ≤ n) × (n ≤ 32) ⌝ }
     requires { ⌜ length (now work) ≡ workNumbers ⌝ }
-    ensures { λ a. ⌜ outcome (rows4 (now (work .exit)) placeU n) (a .count) (a .ratio) ≡ conjugateGradient n (matrixRows (now (work .entry)) n) tolerance limit (rows4 (now (work .entry)) placeR n) ⌝ }
+    ensures { λ a. ⌜ outcome (vectorsAt n (now (work .exit))) (a .count) (a .ratio) ≡ conjugateGradient n (matrixRows (now (work .entry)) n) tolerance limit (rows4 (now (work .entry)) placeR n) ⌝ }
     ensures { λ _. ⌜ Kept n (now (work .entry)) (now (work .exit)) ⌝ }
 {
     let rho = begin(work, n);

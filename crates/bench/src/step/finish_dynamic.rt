@@ -16,7 +16,7 @@ ghost use Rattle.matrix.specs.Parts.{part};
 ghost use Rattle.matrix.specs.Rows.{rows3, rows4, flat3};
 ghost use Rattle.matrix.specs.Area.{placeU, placePositions, placeVelocities, workNumbers};
 ghost use Rattle.matrix.specs.HairSystem.{stagedShape};
-ghost use Rattle.matrix.specs.ConjugateGradient.{outcome};
+ghost use Rattle.matrix.specs.ConjugateGradient.{vectorsAt, outcome};
 ghost use Rattle.bench.specs.Areas.{drapePart, pinPart};
 ghost use Rattle.bench.specs.Rows.{first};
 ghost use Rattle.bench.specs.Update.{updateSolutionHair};
@@ -88,8 +88,8 @@ pub(crate) fn finish_dynamic(
     requires { ⌜ length (now drape) ≡ drapePart ⌝ }
     requires { ⌜ length (now pins) ≡ pinPart ⌝ }
     requires { ⌜ length (now work) ≡ workNumbers ⌝ }
-    ensures { λ r. ⌜ r ≡ reportBy (first (finishRows n (now (pins .entry)) (stagedShape n (now (work .entry))) (outcome (rows4 (now (work .entry)) placeU n) (s .count) (s .ratio)) (dynamicDrape dt n (now (pins .entry)) (now (drape .entry)) (updateSolutionHair n (now (pins .entry)) (stagedShape n (now (work .entry))) (rows4 (now (work .entry)) placeU n))))) energy (s .ratio) (s .count) ⌝ }
-    ensures { λ _. ⌜ now (drape .exit) ≡ drapeBy (first (finishRows n (now (pins .entry)) (stagedShape n (now (work .entry))) (outcome (rows4 (now (work .entry)) placeU n) (s .count) (s .ratio)) (dynamicDrape dt n (now (pins .entry)) (now (drape .entry)) (updateSolutionHair n (now (pins .entry)) (stagedShape n (now (work .entry))) (rows4 (now (work .entry)) placeU n))))) (now (drape .entry)) (dynamicDrape dt n (now (pins .entry)) (now (drape .entry)) (updateSolutionHair n (now (pins .entry)) (stagedShape n (now (work .entry))) (rows4 (now (work .entry)) placeU n))) ⌝ }
+    ensures { λ r. ⌜ r ≡ reportBy (first (finishRows n (now (pins .entry)) (stagedShape n (now (work .entry))) (outcome (vectorsAt n (now (work .entry))) (s .count) (s .ratio)) (dynamicDrape dt n (now (pins .entry)) (now (drape .entry)) (updateSolutionHair n (now (pins .entry)) (stagedShape n (now (work .entry))) (rows4 (now (work .entry)) placeU n))))) energy (s .ratio) (s .count) ⌝ }
+    ensures { λ _. ⌜ now (drape .exit) ≡ drapeBy (first (finishRows n (now (pins .entry)) (stagedShape n (now (work .entry))) (outcome (vectorsAt n (now (work .entry))) (s .count) (s .ratio)) (dynamicDrape dt n (now (pins .entry)) (now (drape .entry)) (updateSolutionHair n (now (pins .entry)) (stagedShape n (now (work .entry))) (rows4 (now (work .entry)) placeU n))))) (now (drape .entry)) (dynamicDrape dt n (now (pins .entry)) (now (drape .entry)) (updateSolutionHair n (now (pins .entry)) (stagedShape n (now (work .entry))) (rows4 (now (work .entry)) placeU n))) ⌝ }
 {
     let ratio = s.ratio;
     if !finish::solution_is_finite(&work[..], n, ratio) {

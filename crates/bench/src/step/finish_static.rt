@@ -12,7 +12,7 @@ ghost use lib.ListN.{length};
 ghost use Rattle.matrix.specs.Rows.{rows4};
 ghost use Rattle.matrix.specs.Area.{placeU, workNumbers};
 ghost use Rattle.matrix.specs.HairSystem.{stagedShape};
-ghost use Rattle.matrix.specs.ConjugateGradient.{outcome};
+ghost use Rattle.matrix.specs.ConjugateGradient.{vectorsAt, outcome};
 ghost use Rattle.bench.specs.Areas.{drapePart, pinPart};
 ghost use Rattle.bench.specs.Rows.{first};
 ghost use Rattle.bench.specs.Update.{updateSolutionHair};
@@ -56,8 +56,8 @@ pub(crate) fn finish_static(
     requires { ⌜ length (now drape) ≡ drapePart ⌝ }
     requires { ⌜ length (now pins) ≡ pinPart ⌝ }
     requires { ⌜ length (now work) ≡ workNumbers ⌝ }
-    ensures { λ r. ⌜ r ≡ reportBy (first (finishRows n (now (pins .entry)) (stagedShape n (now (work .entry))) (outcome (rows4 (now (work .entry)) placeU n) (s .count) (s .ratio)) (staticDrape (now (drape .entry)) (updateSolutionHair n (now (pins .entry)) (stagedShape n (now (work .entry))) (rows4 (now (work .entry)) placeU n))))) energy (s .ratio) (s .count) ⌝ }
-    ensures { λ _. ⌜ now (drape .exit) ≡ drapeBy (first (finishRows n (now (pins .entry)) (stagedShape n (now (work .entry))) (outcome (rows4 (now (work .entry)) placeU n) (s .count) (s .ratio)) (staticDrape (now (drape .entry)) (updateSolutionHair n (now (pins .entry)) (stagedShape n (now (work .entry))) (rows4 (now (work .entry)) placeU n))))) (now (drape .entry)) (staticDrape (now (drape .entry)) (updateSolutionHair n (now (pins .entry)) (stagedShape n (now (work .entry))) (rows4 (now (work .entry)) placeU n))) ⌝ }
+    ensures { λ r. ⌜ r ≡ reportBy (first (finishRows n (now (pins .entry)) (stagedShape n (now (work .entry))) (outcome (vectorsAt n (now (work .entry))) (s .count) (s .ratio)) (staticDrape (now (drape .entry)) (updateSolutionHair n (now (pins .entry)) (stagedShape n (now (work .entry))) (rows4 (now (work .entry)) placeU n))))) energy (s .ratio) (s .count) ⌝ }
+    ensures { λ _. ⌜ now (drape .exit) ≡ drapeBy (first (finishRows n (now (pins .entry)) (stagedShape n (now (work .entry))) (outcome (vectorsAt n (now (work .entry))) (s .count) (s .ratio)) (staticDrape (now (drape .entry)) (updateSolutionHair n (now (pins .entry)) (stagedShape n (now (work .entry))) (rows4 (now (work .entry)) placeU n))))) (now (drape .entry)) (staticDrape (now (drape .entry)) (updateSolutionHair n (now (pins .entry)) (stagedShape n (now (work .entry))) (rows4 (now (work .entry)) placeU n))) ⌝ }
 {
     let ratio = s.ratio;
     if !finish::solution_is_finite(&work[..], n, ratio) {
