@@ -20,7 +20,7 @@ use Rattle.bench.specs.Areas.{seats, restNumbers, drapeNumbers, pinBytes
 use Rattle.bench.specs.Strand.{Strand, Bench, withDrape, entryOf, strandOf, putStrand, left, putAll, benchOf, noSettings}
 use Rattle.bench.specs.Given.{isEmpty}
 use Rattle.bench.specs.Rows.{Row, any, first, leavesWork, LeavesWork, inTable}
-use Rattle.bench.specs.Answers.{reported}
+use Rattle.bench.specs.Answers.{reported, stepNumbers, numbersTold}
 use Rattle.bench.specs.Step.{Time, pickFits, beginRows, finishRows, Update, updateOf, reportBy, stepAnswer, drapeBy, stepDrape}
 use Rattle.bench.specs.Asks.{step, of, Call, callWith, lends, lentOf}
 use Rattle.bench.specs.Requests.{askedRows, caseAt}
@@ -73,25 +73,36 @@ module _ (w : List Float) (s : ℕ) (p : Pick) (d : Time) (b : Bench) where
   unfolding doneOf caseOf caseAt seatRows strandOf
   number-is = refl
 
+  -- ---- what both kinds of step promise: r is the answer, x the drape after it, v and y the work area before and after it
+  abbrev Promised : (r : StepAnswer) (x v y : List Float) → Type 0
+  Promised r x v y = (reported r ≡ answerOf this b) × ((stepNumbers r ≡ numbersTold (answerOf this b)) × ((benchOf (b .seats) (b .rest) x (b .pins) ≡ afterOf this b) × LeavesWork (numberOf this b) v y))
+
+  promised : (r : StepAnswer) (x v y : List Float) → reported r ≡ answerOf this b → benchOf (b .seats) (b .rest) x (b .pins) ≡ afterOf this b → LeavesWork (numberOf this b) v y → Promised r x v y
+  unfolding numbersTold
+  promised r x v y e f g = (e, (ap numbersTold e, (f, g)))
+
   -- ---- refused before its strand is looked at
-  pub step-refused : (k : ℕ) → k ≡ first asked → k ≢ 0 → (v : List Float) → (reported (Refused k) ≡ answerOf this b) × ((b ≡ afterOf this b) × LeavesWork (numberOf this b) v v)
+  pub step-refused : (k : ℕ) → k ≡ first asked → k ≢ 0 → (v : List Float) → Promised (Refused k) (b .drape) v v
   unfolding doneOf putAll
   step-refused k e h v =
       let q : numberOf this b ≡ k = number-is ∙ first-before asked (u .rows) (λ z. h (e ∙ z)) ∙ sym e in
       let n : numberOf this b ≢ 0 = λ z. h (sym q ∙ z) in
-      (sym (answer-refused (of s (step p d)) (numberOf this b) _ n ∙ ap (λ (j : ℕ). reported (Refused j)) q), (rw (leaves-refused (numberOf this b) (caseOf (of s (step p d)) (lentOf this) b .leaves) n), λ _. refl))
+      promised (Refused k) (b .drape) v v
+      (sym (answer-refused (of s (step p d)) (numberOf this b) _ n ∙ ap (λ (j : ℕ). reported (Refused j)) q))
+      (rw (leaves-refused (numberOf this b) (caseOf (of s (step p d)) (lentOf this) b .leaves) n))
+      (λ _. refl)
 
   -- ---- its strand is stepped
-  pub step-done : first asked ≡ 0 → (r : StepAnswer) (x v y : List Float) → r ≡ stepAnswer u → x ≡ put (b .drape) (drapePart * s) (stepDrape (part (b .drape) (drapePart * s) drapePart) u)
-      → (reported r ≡ answerOf this b) × ((benchOf (b .seats) (b .rest) x (b .pins) ≡ afterOf this b) × LeavesWork (numberOf this b) v y)
+  pub step-done : first asked ≡ 0 → (r : StepAnswer) (x v y : List Float) → r ≡ stepAnswer u → x ≡ put (b .drape) (drapePart * s) (stepDrape (part (b .drape) (drapePart * s) drapePart) u) → Promised r x v y
   unfolding doneOf caseOf caseAt
   step-done e r x v y f g =
       let q : numberOf this b ≡ first (u .rows) = number-is ∙ first-behind asked (u .rows) asked-numbered e in
       let ls = left s (withDrape (strandOf s b) (u .drape)) ∷ [] in
-      let l : benchOf (b .seats) (b .rest) x (b .pins) ≡ putAll (leavesBy (first (u .rows)) ls) b = rw g (left-by s b (u .drape) (first (u .rows))) in (
-        ap reported f ∙ sym (answer-by s p d (first (u .rows)) u) ∙ rw q,
-        (l ∙ ap (λ (j : ℕ). putAll (leavesBy j ls) b) (sym q), λ z. absurd (false≢true (sym (free-number (strandOf s b) p d) ∙ (rw q at z)))),
-      )
+      let l : benchOf (b .seats) (b .rest) x (b .pins) ≡ putAll (leavesBy (first (u .rows)) ls) b = rw g (left-by s b (u .drape) (first (u .rows))) in
+      promised r x v y
+      (ap reported f ∙ sym (answer-by s p d (first (u .rows)) u) ∙ rw q)
+      (l ∙ ap (λ (j : ℕ). putAll (leavesBy j ls) b) (sym q))
+      (λ z. absurd (false≢true (sym (free-number (strandOf s b) p d) ∙ (rw q at z))))
 
   -- ---- and then all is as the strand's step wants it
   pub record Steps : Type 0 where

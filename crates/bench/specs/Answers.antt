@@ -25,10 +25,20 @@ pub record StepNumbers : Type 0 where
   pub count : ℕ
   pub ratio : Float
 
--- "Energy, count and ratio are then 0": those of a refused step.
+-- "Energy, count and ratio are then 0": the number k with nothing beside it.
+abbrev pub numberAlone : ℕ → StepNumbers
+numberAlone k = record { number = k; energy = plusZero; count = 0; ratio = plusZero }
+
+-- "a definition tells you this paper's number and values for each of its cases"
 unfoldable pub stepNumbers : StepAnswer → StepNumbers
 stepNumbers (Accepted e x k) = record { number = 0; energy = e; count = k; ratio = x }
-stepNumbers (Refused k) = record { number = k; energy = plusZero; count = 0; ratio = plusZero }
+stepNumbers (Refused k) = numberAlone k
+
+-- The same of any answer: one that is no step's has its number alone, and a look's has none.
+unfoldable pub numbersTold : Answer → StepNumbers
+numbersTold (said k) = numberAlone k
+numbersTold (handed l) = numberAlone 0
+numbersTold (reported r) = stepNumbers r
 
 -- Whether every f64 that it tells is finite.
 unfoldable pub finiteAnswer : Answer → Bool

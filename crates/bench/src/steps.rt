@@ -15,7 +15,7 @@ ghost use Rattle.matrix.specs.Area.{workNumbers};
 ghost use Rattle.bench.specs.Areas.{seats, restNumbers, drapeNumbers, pinBytes, restPart, drapePart, pinPart};
 ghost use Rattle.bench.specs.Strand.{strand, benchOf};
 ghost use Rattle.bench.specs.Rows.{LeavesWork};
-ghost use Rattle.bench.specs.Answers.{reported};
+ghost use Rattle.bench.specs.Answers.{reported, stepNumbers, numbersTold};
 ghost use Rattle.bench.specs.Step.{still, over, pickFits, updateOf, stepAnswer, stepDrape};
 ghost use Rattle.bench.specs.Asks.{step, callWith};
 ghost use Rattle.bench.specs.Calls.{numberOf, answerOf, afterOf};
@@ -66,6 +66,7 @@ pub fn update_static(
     pick: Pick,
 ) -> StepAnswer
     ensures { λ r. ⌜ reported r ≡ answerOf (callWith (now (work .entry)) seat (step pick still)) (benchOf seats (now (rest .entry)) (now (drape .entry)) (now (pins .entry))) ⌝ }
+    ensures { λ r. ⌜ stepNumbers r ≡ numbersTold (answerOf (callWith (now (work .entry)) seat (step pick still)) (benchOf seats (now (rest .entry)) (now (drape .entry)) (now (pins .entry)))) ⌝ }
     ensures { λ _. ⌜ benchOf seats (now (rest .entry)) (now (drape .exit)) (now (pins .entry)) ≡ afterOf (callWith (now (work .entry)) seat (step pick still)) (benchOf seats (now (rest .entry)) (now (drape .entry)) (now (pins .entry))) ⌝ }
     ensures { λ _. ⌜ LeavesWork (numberOf (callWith (now (work .entry)) seat (step pick still)) (benchOf seats (now (rest .entry)) (now (drape .entry)) (now (pins .entry)))) (now (work .entry)) (now (work .exit)) ⌝ }
 {
@@ -136,6 +137,7 @@ pub fn update_dynamic(
     dt: f64,
 ) -> StepAnswer
     ensures { λ r. ⌜ reported r ≡ answerOf (callWith (now (work .entry)) seat (step pick (over dt))) (benchOf seats (now (rest .entry)) (now (drape .entry)) (now (pins .entry))) ⌝ }
+    ensures { λ r. ⌜ stepNumbers r ≡ numbersTold (answerOf (callWith (now (work .entry)) seat (step pick (over dt))) (benchOf seats (now (rest .entry)) (now (drape .entry)) (now (pins .entry)))) ⌝ }
     ensures { λ _. ⌜ benchOf seats (now (rest .entry)) (now (drape .exit)) (now (pins .entry)) ≡ afterOf (callWith (now (work .entry)) seat (step pick (over dt))) (benchOf seats (now (rest .entry)) (now (drape .entry)) (now (pins .entry))) ⌝ }
     ensures { λ _. ⌜ LeavesWork (numberOf (callWith (now (work .entry)) seat (step pick (over dt))) (benchOf seats (now (rest .entry)) (now (drape .entry)) (now (pins .entry)))) (now (work .entry)) (now (work .exit)) ⌝ }
 {

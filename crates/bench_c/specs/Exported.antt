@@ -5,13 +5,12 @@ use Prim.Native.Nat.{ℕ, zero, suc, _+_, _-_, _*_}
 use lib.Dec.{ltb}
 use lib.ListN.{getD}
 use lib.Ieee.{Float}
-use Rattle.vectors.specs.Number.{plusZero}
 use Rattle.vectors.specs.declared.vec3.Vec3.{Vec3}
 use Rattle.bench.specs.declared.answers.Pick.{Pick}
 use Rattle.bench.specs.declared.answers.Pick.the-variants.{Nothing, At}
 use Rattle.bench.specs.Areas.{restPart, drapePart, vectorPart}
 use Rattle.bench.specs.Strand.{Bench}
-use Rattle.bench.specs.Answers.{Answer, said, handed, reported, stepNumbers}
+use Rattle.bench.specs.Answers.{Answer, numbersTold}
 use Rattle.bench.specs.Asks.{look, call}
 use Rattle.bench.specs.Calls.{numberOf}
 use Rattle.bench_c.specs.declared.Report.{Report}
@@ -22,11 +21,9 @@ abbrev pub pickOf : ℕ → ℕ → Vec3 → Pick
 pickOf zero v goal = Nothing
 pickOf (suc b) v goal = At v goal
 
--- A step's answer in document 01's numbers; what is not a step's has its number alone.
+-- An answer in document 01's numbers.
 abbrev pub reportOf : Answer → Report
-reportOf (said k) = record { number = k; energy = plusZero; count = 0; ratio = plusZero }
-reportOf (handed l) = record { number = 0; energy = plusZero; count = 0; ratio = plusZero }
-reportOf (reported a) = let n = stepNumbers a in record { number = n .number; energy = n .energy; count = n .count; ratio = n .ratio }
+reportOf a = let n = numbersTold a in record { number = n .number; energy = n .energy; count = n .count; ratio = n .ratio }
 
 -- "that part of the rest area or of the drape area itself": the area that a kind chooses.
 abbrev pub lookedAt : ℕ → List Float → List Float → List Float

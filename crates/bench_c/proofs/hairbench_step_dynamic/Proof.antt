@@ -23,7 +23,7 @@ same-length-2 c = search needs
 returns : tie.Need-returns
 returns c =
     let e = rw (c .before .before .before .before .before .before .before .before .picked .ensures) at (c .before .before .before .before .before .update-dynamic .ensures) in
-    (c .told .ensures ∙ ap reportOf (e .0), (e .1 .0, e .1 .1))
+    (c .told .ensures ∙ ap reportOf (e .0), e .1 .1)
 
 pub hairbench-step-dynamic-spec : {M : Type 1} → statement M
 hairbench-step-dynamic-spec =
