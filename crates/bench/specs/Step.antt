@@ -1,4 +1,4 @@
--- The step of one strand: rod3_darboux.rs, `update_static`, lines 1113 to 1172, and `update_dynamic`, lines 1174 to 1264, with what 5 and 6 ask of pick and time, and the refusals 7 to 11 of document 01.
+-- The step of one strand: rod3_darboux.rs, `update_static`, lines 1113 to 1172, and `update_dynamic`, lines 1174 to 1263, with what 5 and 6 ask of pick and time, and the refusals 7 to 11 of document 01.
 use mathlib.Core.Path.{_≡_}
 use mathlib.Core.Bool.{Bool, true, _&&_}
 use mathlib.Core.List.{List, [], _∷_, _++_}

@@ -1,4 +1,4 @@
--- The blocks of the matrix in the area: document 01, "Assembly" (stand-in for `vtx2vtx_rods`).
+-- The blocks of the matrix in the area. Which columns a row has, and their order, is document 01's ("Assembly", stand-in for `vtx2vtx_rods`); where they stand is ours.
 use mathlib.Core.Path.{_≡_}
 use mathlib.Core.Bool.{cond}
 use Prim.Native.Nat.{ℕ, zero, suc, _+_, _-_, _*_, _≤_, _<_}
@@ -14,20 +14,20 @@ before (suc (suc i)) = 2
 unfoldable pub after : ℕ → ℕ → ℕ
 after n i = before (n - suc i)
 
--- With the diagonal block, which comes last.
+-- With the diagonal block, which the Rust keeps apart (`row2val`) and multiplies last (sparse_square.rs, lines 442 to 445).
 unfoldable pub rowLength : ℕ → ℕ → ℕ
 rowLength n i = before i + after n i + 1
 
--- The blocks that stand before row i.
+-- The blocks that stand before row i, as `row2idx` counts those beside the diagonal.
 unfoldable pub rowStart : ℕ → ℕ → ℕ
 rowStart n zero = 0
 rowStart n (suc i) = rowStart n i + rowLength n i
 
--- The column of the c-th block of row i: those before, those after, then its own.
+-- The column of the c-th block of row i, as `idx2col` has it: those before, those after, then its own.
 unfoldable pub columnAt : ℕ → ℕ → ℕ → ℕ
 columnAt n i c = cond (ltb c (before i)) (i - before i + c) (cond (ltb c (before i + after n i)) (i + 1 + (c - before i)) i)
 
--- Where in row i the block of column j stands, and where it stands among all blocks.
+-- Where in row i the block of column j stands, as `col2idx` finds it (sparse_square.rs, lines 376 to 379), and where it stands among all blocks.
 unfoldable pub columnPlace : ℕ → ℕ → ℕ → ℕ
 columnPlace n i j = cond (ltb j i) (before i + j - i) (cond (ltb i j) (before i + (j - suc i)) (before i + after n i))
 
@@ -41,7 +41,7 @@ pub record Near (n i j : ℕ) : Type 0 where
   pub low : i ≤ j + 2
   pub high : j ≤ i + 2
 
--- The numbers that the blocks of at most 32 rows take in the work area: "The areas", 16 for each of 5 * 32 - 6 blocks.
+-- The numbers that the blocks of at most 32 rows take in the work area: 16 for each of 5 * 32 - 6 blocks.
 abbrev pub matrixNumbers : ℕ
 matrixNumbers = 2464
 
