@@ -67,6 +67,12 @@ typedef struct {
     hairbench_settings settings[HAIRBENCH_SEATS];
 } hairbench_record;
 
+/* The record after a load or an unload, and the number that the call is refused with, 0 for none. */
+typedef struct {
+    hairbench_record seats;
+    uint8_t refusal;
+} hairbench_changed;
+
 /* A step's answer: the number that it is refused with, 0 for none; the energy, the iterations of the solve and
  * its last ratio, which are 0 where it is refused. */
 typedef struct {
@@ -83,14 +89,37 @@ typedef struct {
 } hairbench_place;
 
 /* Lays a strand of n vertices on an empty seat: three numbers of positions and of frames for each vertex. */
-uint8_t hairbench_load(hairbench_record *record, double *rest, size_t rest_length, double *drape,
-                       size_t drape_length, uint8_t *pins, size_t pins_length, size_t seat, size_t n,
-                       hairbench_settings settings, const double *positions, size_t positions_length,
-                       const double *frames, size_t frames_length);
+hairbench_changed hairbench_load_value(hairbench_record record, double *rest, size_t rest_length, double *drape,
+                                       size_t drape_length, uint8_t *pins, size_t pins_length, size_t seat,
+                                       size_t n, hairbench_settings settings, const double *positions,
+                                       size_t positions_length, const double *frames, size_t frames_length);
+
+/* The same, with the record where it stands; what it is refused with. */
+static inline uint8_t hairbench_load(hairbench_record *record, double *rest, size_t rest_length, double *drape,
+                                     size_t drape_length, uint8_t *pins, size_t pins_length, size_t seat,
+                                     size_t n, hairbench_settings settings, const double *positions,
+                                     size_t positions_length, const double *frames, size_t frames_length)
+{
+    hairbench_changed after =
+        hairbench_load_value(*record, rest, rest_length, drape, drape_length, pins, pins_length, seat, n,
+                             settings, positions, positions_length, frames, frames_length);
+    *record = after.seats;
+    return after.refusal;
+}
 
 /* Empties a seat. */
-uint8_t hairbench_unload(hairbench_record *record, double *rest, size_t rest_length, double *drape,
-                         size_t drape_length, uint8_t *pins, size_t pins_length, size_t seat);
+hairbench_changed hairbench_unload_value(hairbench_record record, double *rest, size_t rest_length, double *drape,
+                                         size_t drape_length, uint8_t *pins, size_t pins_length, size_t seat);
+
+/* The same, with the record where it stands; what it is refused with. */
+static inline uint8_t hairbench_unload(hairbench_record *record, double *rest, size_t rest_length, double *drape,
+                                       size_t drape_length, uint8_t *pins, size_t pins_length, size_t seat)
+{
+    hairbench_changed after = hairbench_unload_value(*record, rest, rest_length, drape, drape_length, pins,
+                                                     pins_length, seat);
+    *record = after.seats;
+    return after.refusal;
+}
 
 /* Pins a component of a vertex with any byte but 0, frees it with 0. Components 0 to 2 are x, y, z; 3 is the
  * twist of the edge that begins at the vertex. */

@@ -1,6 +1,6 @@
 //! The bench with its memory.
 
-use crate::ffi::{self, Kept, Lent, Record, Report};
+use crate::ffi::{self, Changed, Kept, Lent, Record, Report};
 use crate::{Component, Kind, Pick, Refusal, Settings, StepReport, Strand, SEATS};
 
 /// Six seats, each empty or with a strand, and the areas that the library works in.
@@ -34,7 +34,8 @@ impl Bench {
     /// Lays a strand on an empty seat, unpinned and at rest.
     pub fn load(&mut self, seat: usize, strand: &Strand) -> Result<(), Refusal> {
         let kept = Kept { rest: &mut self.rest, drape: &mut self.drape, pins: &mut self.pins };
-        answer(ffi::load(&mut self.record, kept, seat, strand))
+        let after = ffi::load(self.record, kept, seat, strand);
+        self.changed(after)
     }
 
     /// Empties a seat.
@@ -45,7 +46,8 @@ impl Bench {
     /// ```
     pub fn unload(&mut self, seat: usize) -> Result<(), Refusal> {
         let kept = Kept { rest: &mut self.rest, drape: &mut self.drape, pins: &mut self.pins };
-        answer(ffi::unload(&mut self.record, kept, seat))
+        let after = ffi::unload(self.record, kept, seat);
+        self.changed(after)
     }
 
     /// Pins a component of a vertex, or frees it.
@@ -118,6 +120,12 @@ impl Bench {
         bits.extend(self.drape[384 * seat..384 * (seat + 1)].iter().map(|x| x.to_bits()));
         bits.extend(self.pins[128 * seat..128 * (seat + 1)].iter().map(|&b| b as u64));
         Some(bits)
+    }
+
+    /// Takes over the record that a load or an unload left.
+    fn changed(&mut self, after: Changed) -> Result<(), Refusal> {
+        self.record = after.seats;
+        answer(after.refusal)
     }
 
     fn lent(&mut self) -> Lent<'_> {

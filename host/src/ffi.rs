@@ -24,6 +24,14 @@ pub(crate) struct Record {
     pub settings: [Settings; SEATS],
 }
 
+/// The record after a load or an unload, and the number that the call is refused with, 0 for none.
+#[repr(C)]
+#[derive(Clone, Copy, Debug)]
+pub(crate) struct Changed {
+    pub seats: Record,
+    pub refusal: u8,
+}
+
 /// A step's answer: the number that it is refused with, 0 for none, and its numbers.
 #[repr(C)]
 #[derive(Clone, Copy, Debug)]
@@ -52,15 +60,15 @@ pub(crate) struct Lent<'a> {
 
 #[rustfmt::skip]
 extern "C" {
-    fn hairbench_load(
-        record: *mut Record, rest: *mut f64, rest_length: usize, drape: *mut f64, drape_length: usize, pins: *mut u8,
+    fn hairbench_load_value(
+        record: Record, rest: *mut f64, rest_length: usize, drape: *mut f64, drape_length: usize, pins: *mut u8,
         pins_length: usize, seat: usize, n: usize, settings: Settings, positions: *const f64, positions_length: usize,
         frames: *const f64, frames_length: usize,
-    ) -> u8;
-    fn hairbench_unload(
-        record: *mut Record, rest: *mut f64, rest_length: usize, drape: *mut f64, drape_length: usize, pins: *mut u8,
+    ) -> Changed;
+    fn hairbench_unload_value(
+        record: Record, rest: *mut f64, rest_length: usize, drape: *mut f64, drape_length: usize, pins: *mut u8,
         pins_length: usize, seat: usize,
-    ) -> u8;
+    ) -> Changed;
     fn hairbench_pin(
         record: Record, pins: *mut u8, pins_length: usize, seat: usize, vertex: usize, component: usize, byte: u8,
     ) -> u8;
@@ -91,13 +99,13 @@ pub(crate) struct Kept<'a> {
     pub pins: &'a mut [u8],
 }
 
-pub(crate) fn load(record: &mut Record, kept: Kept, seat: usize, strand: &Strand) -> u8 {
+pub(crate) fn load(record: Record, kept: Kept, seat: usize, strand: &Strand) -> Changed {
     let Kept { rest, drape, pins } = kept;
     let Strand { n, settings, positions, frames } = *strand;
-    // Sound: pointer and length of each slice; record and the three areas are exclusive references, the lists shared ones
-    // that the library only reads.
+    // Sound: pointer and length of each slice; the three areas are exclusive references, the lists shared ones that the
+    // library only reads; the record goes by value.
     unsafe {
-        hairbench_load(
+        hairbench_load_value(
             record,
             rest.as_mut_ptr(),
             rest.len(),
@@ -116,11 +124,11 @@ pub(crate) fn load(record: &mut Record, kept: Kept, seat: usize, strand: &Strand
     }
 }
 
-pub(crate) fn unload(record: &mut Record, kept: Kept, seat: usize) -> u8 {
+pub(crate) fn unload(record: Record, kept: Kept, seat: usize) -> Changed {
     let Kept { rest, drape, pins } = kept;
-    // Sound: pointer and length of each slice; record and the three areas are exclusive references.
+    // Sound: pointer and length of each slice; the three areas are exclusive references; the record goes by value.
     unsafe {
-        hairbench_unload(
+        hairbench_unload_value(
             record,
             rest.as_mut_ptr(),
             rest.len(),
@@ -216,6 +224,7 @@ mod tests {
     fn the_layout_is_that_of_the_header() {
         assert_eq!(std::mem::size_of::<Settings>(), 40);
         assert_eq!(std::mem::size_of::<Record>(), 6 * 8 + 6 * 40);
+        assert_eq!(std::mem::size_of::<Changed>(), 6 * 8 + 6 * 40 + 8);
         assert_eq!(std::mem::size_of::<Report>(), 32);
         assert_eq!(std::mem::size_of::<Place>(), 16);
     }

@@ -23,17 +23,44 @@ static void expect(int holds, const char *what)
     }
 }
 
-/* A new bench with an edge of length 1 on the seat; the work area holds NaN. */
+/* An edge of length 1. */
+static const double positions[6] = {0, 0, 0, 1, 0, 0};
+static const double frames[6] = {0, 1, 0, 0, 1, 0};
+static const hairbench_settings settings = {0, 0, 0, 0, 1.0 / 1024};
+
+/* It is laid on the seat, the record where it stands and by value. */
+static uint8_t laid(size_t seat, size_t n)
+{
+    return hairbench_load(&bench.record, bench.rest, HAIRBENCH_REST, bench.drape, HAIRBENCH_DRAPE, bench.pins,
+                          HAIRBENCH_PINS, seat, n, settings, positions, 6, frames, 6);
+}
+
+static hairbench_changed laid_value(hairbench_record record, size_t seat)
+{
+    return hairbench_load_value(record, bench.rest, HAIRBENCH_REST, bench.drape, HAIRBENCH_DRAPE, bench.pins,
+                                HAIRBENCH_PINS, seat, 2, settings, positions, 6, frames, 6);
+}
+
+/* The same of unload. */
+static uint8_t emptied(size_t seat)
+{
+    return hairbench_unload(&bench.record, bench.rest, HAIRBENCH_REST, bench.drape, HAIRBENCH_DRAPE, bench.pins,
+                            HAIRBENCH_PINS, seat);
+}
+
+static hairbench_changed emptied_value(hairbench_record record, size_t seat)
+{
+    return hairbench_unload_value(record, bench.rest, HAIRBENCH_REST, bench.drape, HAIRBENCH_DRAPE, bench.pins,
+                                  HAIRBENCH_PINS, seat);
+}
+
+/* A new bench with the edge on the seat; the work area holds NaN. */
 static uint8_t seated(size_t seat, size_t n)
 {
-    static const double positions[6] = {0, 0, 0, 1, 0, 0};
-    static const double frames[6] = {0, 1, 0, 0, 1, 0};
-    hairbench_settings settings = {0, 0, 0, 0, 1.0 / 1024};
     memset(&bench, 0, sizeof bench);
     for (size_t i = 0; i < HAIRBENCH_WORK; i++)
         bench.work[i] = NAN;
-    return hairbench_load(&bench.record, bench.rest, HAIRBENCH_REST, bench.drape, HAIRBENCH_DRAPE, bench.pins,
-                          HAIRBENCH_PINS, seat, n, settings, positions, 6, frames, 6);
+    return laid(seat, n);
 }
 
 static uint8_t pinned(size_t seat, size_t vertex, size_t component, uint8_t byte)
@@ -91,8 +118,45 @@ static void dynamic_step_and_unload(void)
                                                 NAN, NAN, 1.0 / 30);
     expect(r.number == 0 && r.count == 0, "a strand at rest stays");
     expect(shown(1, HAIRBENCH_VELOCITIES).at == 384 + 192, "where velocities stand");
-    expect(hairbench_unload(&bench.record, bench.rest, HAIRBENCH_REST, bench.drape, HAIRBENCH_DRAPE, bench.pins,
-                            HAIRBENCH_PINS, 1) == HAIRBENCH_ACCEPTED && bench.record.counts[1] == 0, "unload");
+    expect(emptied(1) == HAIRBENCH_ACCEPTED && bench.record.counts[1] == 0, "unload");
+}
+
+static int same(const hairbench_record *a, const hairbench_record *b)
+{
+    return memcmp(a, b, sizeof *a) == 0;
+}
+
+/* Load and unload, by value and where the record stands. Seat 4 is empty, so that no call looks at its settings, of
+ * which one is a NaN with bits of its own. */
+static hairbench_record odd_record(void)
+{
+    static const uint64_t odd = 0x7ff4000000000123;
+    seated(2, 2);
+    memcpy(&bench.record.settings[4].conv_ratio, &odd, sizeof odd);
+    return bench.record;
+}
+
+static void declined_records(void)
+{
+    const hairbench_record before = odd_record();
+    expect(laid(2, 2) == HAIRBENCH_SEAT_STATE && same(&bench.record, &before), "a declined load leaves the record");
+    expect(emptied(4) == HAIRBENCH_SEAT_STATE && same(&bench.record, &before), "a declined unload leaves the record");
+    hairbench_changed after = laid_value(before, 2);
+    expect(after.refusal == HAIRBENCH_SEAT_STATE && same(&after.seats, &before), "a declined load gives it back");
+    after = emptied_value(before, 4);
+    expect(after.refusal == HAIRBENCH_SEAT_STATE && same(&after.seats, &before), "a declined unload gives it back");
+}
+
+static void changed_records(void)
+{
+    const hairbench_record before = odd_record();
+    hairbench_changed after = laid_value(before, 3);
+    expect(after.refusal == HAIRBENCH_ACCEPTED && same(&bench.record, &before), "a value leaves the caller's record");
+    expect(laid(3, 2) == HAIRBENCH_ACCEPTED && same(&bench.record, &after.seats), "both loads leave one record");
+    expect(after.seats.counts[3] == 2 && after.seats.settings[3].conv_ratio == settings.conv_ratio, "what it says");
+    after = emptied_value(after.seats, 3);
+    expect(after.refusal == HAIRBENCH_ACCEPTED && same(&after.seats, &before), "an unload by value");
+    expect(emptied(3) == HAIRBENCH_ACCEPTED && same(&bench.record, &before), "an unload where the record stands");
 }
 
 int main(void)
@@ -100,6 +164,8 @@ int main(void)
     static_steps();
     refusals();
     dynamic_step_and_unload();
+    declined_records();
+    changed_records();
     expect(hairbench_sqrt(2) == 0x1.6a09e667f3bcdp+0 && isnan(hairbench_sqrt(-1)), "roots");
     puts(failures ? "c: FAILED" : "c: the examples come out as told");
     return failures != 0;

@@ -26,6 +26,7 @@ pub struct Record {
 }
 
 // The record after a call, and the number that the call is refused with, 0 for none.
+#[repr(C)]
 pub struct Changed {
     pub seats: Record,
     pub refusal: u8,

@@ -5,6 +5,7 @@ use bench::areas;
 use bench::load;
 use bench::look;
 use bench::pin;
+use bench::seats::Changed;
 use bench::seats::Record;
 use bench::seats::Settings;
 use bench::steps;
@@ -74,10 +75,10 @@ fn told(a: StepAnswer) -> Report
     }
 }
 
-// A strand is laid on a seat; the record changes where it stands.
+// A strand is laid on a seat: the record after that, and the number that it is refused with.
 #[no_mangle]
-pub extern "C" fn hairbench_load(
-    record: &mut Record,
+pub extern "C" fn hairbench_load_value(
+    record: Record,
     rest: &mut [f64],
     drape: &mut [f64],
     pins: &mut [u8],
@@ -86,12 +87,12 @@ pub extern "C" fn hairbench_load(
     settings: Settings,
     positions: &[f64],
     frames: &[f64],
-) -> u8
-    ensures { λ r. ⌜ said r ≡ answerOf (call seat (load (loadOf n settings (now (positions .entry)) (now (frames .entry))))) (benchOf (now («record» .entry)) (now (rest .entry)) (now (drape .entry)) (now (pins .entry))) ⌝ }
-    ensures { λ _. ⌜ benchOf (now («record» .exit)) (now (rest .exit)) (now (drape .exit)) (now (pins .exit)) ≡ afterOf (call seat (load (loadOf n settings (now (positions .entry)) (now (frames .entry))))) (benchOf (now («record» .entry)) (now (rest .entry)) (now (drape .entry)) (now (pins .entry))) ⌝ }
+) -> Changed
+    ensures { λ r. ⌜ said (r .refusal) ≡ answerOf (call seat (load (loadOf n settings (now (positions .entry)) (now (frames .entry))))) (benchOf «record» (now (rest .entry)) (now (drape .entry)) (now (pins .entry))) ⌝ }
+    ensures { λ r. ⌜ benchOf (r .seats) (now (rest .exit)) (now (drape .exit)) (now (pins .exit)) ≡ afterOf (call seat (load (loadOf n settings (now (positions .entry)) (now (frames .entry))))) (benchOf «record» (now (rest .entry)) (now (drape .entry)) (now (pins .entry))) ⌝ }
 {
-    let out = load::load_value(
-        *record,
+    load::load_value(
+        record,
         rest,
         drape,
         pins,
@@ -100,26 +101,22 @@ pub extern "C" fn hairbench_load(
         settings,
         positions,
         frames,
-    );
-    *record = out.seats;
-    out.refusal
+    )
 }
 
 // The seat is emptied.
 #[no_mangle]
-pub extern "C" fn hairbench_unload(
-    record: &mut Record,
+pub extern "C" fn hairbench_unload_value(
+    record: Record,
     rest: &mut [f64],
     drape: &mut [f64],
     pins: &mut [u8],
     seat: usize,
-) -> u8
-    ensures { λ r. ⌜ said r ≡ answerOf (call seat unload) (benchOf (now («record» .entry)) (now (rest .entry)) (now (drape .entry)) (now (pins .entry))) ⌝ }
-    ensures { λ _. ⌜ benchOf (now («record» .exit)) (now (rest .exit)) (now (drape .exit)) (now (pins .exit)) ≡ afterOf (call seat unload) (benchOf (now («record» .entry)) (now (rest .entry)) (now (drape .entry)) (now (pins .entry))) ⌝ }
+) -> Changed
+    ensures { λ r. ⌜ said (r .refusal) ≡ answerOf (call seat unload) (benchOf «record» (now (rest .entry)) (now (drape .entry)) (now (pins .entry))) ⌝ }
+    ensures { λ r. ⌜ benchOf (r .seats) (now (rest .exit)) (now (drape .exit)) (now (pins .exit)) ≡ afterOf (call seat unload) (benchOf «record» (now (rest .entry)) (now (drape .entry)) (now (pins .entry))) ⌝ }
 {
-    let out = unload::unload_value(*record, rest, drape, pins, seat);
-    *record = out.seats;
-    out.refusal
+    unload::unload_value(record, rest, drape, pins, seat)
 }
 
 // One pin byte is written.

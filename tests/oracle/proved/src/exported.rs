@@ -3,6 +3,12 @@
 use machine::{Record, Settings};
 
 #[repr(C)]
+pub struct Changed {
+    pub seats: Record,
+    pub refusal: u8,
+}
+
+#[repr(C)]
 pub struct Report {
     pub number: u8,
     pub energy: f64,
@@ -17,8 +23,8 @@ pub struct Place {
 }
 
 extern "C" {
-    pub fn hairbench_load(
-        record: *mut Record,
+    pub fn hairbench_load_value(
+        record: Record,
         rest: *mut f64,
         rest_length: usize,
         drape: *mut f64,
@@ -32,9 +38,9 @@ extern "C" {
         positions_length: usize,
         frames: *const f64,
         frames_length: usize,
-    ) -> u8;
-    pub fn hairbench_unload(
-        record: *mut Record,
+    ) -> Changed;
+    pub fn hairbench_unload_value(
+        record: Record,
         rest: *mut f64,
         rest_length: usize,
         drape: *mut f64,
@@ -42,7 +48,7 @@ extern "C" {
         pins: *mut u8,
         pins_length: usize,
         seat: usize,
-    ) -> u8;
+    ) -> Changed;
     pub fn hairbench_pin(
         record: Record,
         pins: *mut u8,

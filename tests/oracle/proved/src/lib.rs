@@ -32,9 +32,9 @@ fn numbers(report: Report) -> StepNumbers {
 
 impl Machine for Proved {
     fn load(&mut self, record: &mut Record, a: Areas, seat: usize, load: Load) -> u8 {
-        unsafe {
-            hairbench_load(
-                record,
+        let after = unsafe {
+            hairbench_load_value(
+                *record,
                 a.rest.as_mut_ptr(),
                 a.rest.len(),
                 a.drape.as_mut_ptr(),
@@ -49,12 +49,14 @@ impl Machine for Proved {
                 load.frames.as_ptr(),
                 load.frames.len(),
             )
-        }
+        };
+        *record = after.seats;
+        after.refusal
     }
     fn unload(&mut self, record: &mut Record, a: Areas, seat: usize) -> u8 {
-        unsafe {
-            hairbench_unload(
-                record,
+        let after = unsafe {
+            hairbench_unload_value(
+                *record,
                 a.rest.as_mut_ptr(),
                 a.rest.len(),
                 a.drape.as_mut_ptr(),
@@ -63,7 +65,9 @@ impl Machine for Proved {
                 a.pins.len(),
                 seat,
             )
-        }
+        };
+        *record = after.seats;
+        after.refusal
     }
     fn pin(
         &mut self,
