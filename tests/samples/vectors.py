@@ -100,4 +100,5 @@ for name, block in (("outer product", outer(s, a, b)), ("projection", projection
 row("dot of four", [upward(x * y for x, y in zip(p, q))])
 row("dot of four zeros", [upward([-0.0 * 1.0] * 4)])
 row("block of four times vector", [upward(q[j] * columns[j][i] for j in range(4)) for i in range(4)])
+row("block of four zeros times vector", [upward([1.0 * -0.0] * 4) for i in range(4)])
 row("rotated", rotated(normalize(a), normalize(b), c))

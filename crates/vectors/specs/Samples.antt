@@ -89,12 +89,19 @@ wa = vec4 (ofBits binary64 0x3FE6_6666_6666_6666) (ofBits binary64 0xBFF4_CCCC_C
 unfoldable pub wb : Vec4
 wb = vec4 (ofBits binary64 0xBFD9_9999_9999_999A) (ofBits binary64 0x3FEC_CCCC_CCCC_CCCD) (ofBits binary64 0x3FFB_3333_3333_3333) (ofBits binary64 0xC000_CCCC_CCCC_CCCD)
 
--- The zeros show the leading +0: without it a sum of -0 would be -0.
+-- These show the leading +0: without it a sum of -0 would be -0.
+unfoldable pub minusZeros : Vec4
+minusZeros = vec4 (ofBits binary64 0x8000_0000_0000_0000) (ofBits binary64 0x8000_0000_0000_0000) (ofBits binary64 0x8000_0000_0000_0000) (ofBits binary64 0x8000_0000_0000_0000)
+
+unfoldable pub ones : Vec4
+ones = vec4 (ofBits binary64 0x3FF0_0000_0000_0000) (ofBits binary64 0x3FF0_0000_0000_0000) (ofBits binary64 0x3FF0_0000_0000_0000) (ofBits binary64 0x3FF0_0000_0000_0000)
+
 unfoldable pub fours : Bool
 fours =
     haveBits (vec4Dot wa wb ∷ []) (0x4005_9FBE_76C8_B438 ∷ [])
-    && haveBits (vec4Dot (vec4 (ofBits binary64 0x8000_0000_0000_0000) (ofBits binary64 0x8000_0000_0000_0000) (ofBits binary64 0x8000_0000_0000_0000) (ofBits binary64 0x8000_0000_0000_0000)) (vec4 (ofBits binary64 0x3FF0_0000_0000_0000) (ofBits binary64 0x3FF0_0000_0000_0000) (ofBits binary64 0x3FF0_0000_0000_0000) (ofBits binary64 0x3FF0_0000_0000_0000)) ∷ []) (0x0000_0000_0000_0000 ∷ [])
+    && haveBits (vec4Dot minusZeros ones ∷ []) (0x0000_0000_0000_0000 ∷ [])
     && haveBits (vec4Numbers (mat4TimesVec4 (mat4 wa wb (vec4 (ofBits binary64 0x3FF1_9999_9999_999A) (ofBits binary64 0x3FD3_3333_3333_3333) (ofBits binary64 0xC002_6666_6666_6666) (ofBits binary64 0x3FE3_3333_3333_3333)) (vec4 (ofBits binary64 0x3FC9_9999_9999_999A) (ofBits binary64 0xBFE9_9999_9999_999A) (ofBits binary64 0x3FFE_6666_6666_6666) (ofBits binary64 0x4008_CCCC_CCCC_CCCD))) wb)) (0x3FE9_EB85_1EB8_51EB ∷ 0x400C_28F5_C28F_5C2A ∷ 0xC01E_1EB8_51EB_851E ∷ 0xC01E_1CAC_0831_26EA ∷ [])
+    && haveBits (vec4Numbers (mat4TimesVec4 (mat4 minusZeros minusZeros minusZeros minusZeros) ones)) (0x0000_0000_0000_0000 ∷ 0x0000_0000_0000_0000 ∷ 0x0000_0000_0000_0000 ∷ 0x0000_0000_0000_0000 ∷ [])
 
 unfoldable pub turns : Bool
 turns = haveBits (vec3Numbers (rotatedOf (vec3Normalize va) (vec3Normalize vb) vc)) (0x3FFE_ABBC_FF1E_6BE4 ∷ 0xBFF5_1953_95D5_C034 ∷ 0xBFF1_5AB7_7915_D857 ∷ [])

@@ -3,7 +3,7 @@ use crate::mat3::Mat3;
 use crate::vec4;
 use crate::vec4::Vec4;
 ghost use mathlib.Core.Path.{_≡_};
-ghost use Rattle.vectors.specs.Mat4.{mat4Add, mat4FromMat3, mat4TimesVec4};
+ghost use Rattle.vectors.specs.Mat4.{mat4Add, mat4FromMat3};
 
 pub struct Mat4 {
     pub c0: Vec4,
@@ -62,24 +62,4 @@ pub fn from_mat3_adding_w(m: Mat3, w: f64) -> Mat4
             w,
         },
     }
-}
-
-// Entry i is the sum of A_ij * v_j over j, upward from +0.
-pub fn mult_vec(a: Mat4, v: Vec4) -> Vec4
-    ensures { λ r. ⌜ r ≡ mat4TimesVec4 a v ⌝ }
-{
-    let c0 = a.c0;
-    let c1 = a.c1;
-    let c2 = a.c2;
-    let c3 = a.c3;
-    let zero = Vec4 {
-        x: 0.0,
-        y: 0.0,
-        z: 0.0,
-        w: 0.0,
-    };
-    let s0 = vec4::add(zero, vec4::scale(c0, v.x));
-    let s1 = vec4::add(s0, vec4::scale(c1, v.y));
-    let s2 = vec4::add(s1, vec4::scale(c2, v.z));
-    vec4::add(s2, vec4::scale(c3, v.w))
 }
