@@ -23,12 +23,12 @@ row-component l a (suc zero) h = refl
 row-component l a (suc (suc zero)) h = refl
 row-component l a (suc (suc (suc j))) h = absurd (omega arith)
 
-pinned-number : (b : ℕ) (old new : Float) → b ≢ 0 → unlessPinned b old new ≡ old
+pub pinned-number : (b : ℕ) (old new : Float) → b ≢ 0 → unlessPinned b old new ≡ old
 unfolding unlessPinned
 pinned-number zero old new h = absurd (h refl)
 pinned-number (suc b) old new h = refl
 
-free-number : (b : ℕ) (old new : Float) → b ≡ 0 → unlessPinned b old new ≡ new
+pub free-number : (b : ℕ) (old new : Float) → b ≡ 0 → unlessPinned b old new ≡ new
 unfolding unlessPinned
 free-number b old new h = rw h
 

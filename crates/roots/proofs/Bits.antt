@@ -4,14 +4,14 @@ use mathlib.Core.Path.{_≡_, refl, sym, ap, _∙_}
 use mathlib.Core.Logic.{inl, inr}
 use mathlib.Core.Bool.{true, false, not, true≢false}
 use Prim.Native.Nat.{ℕ, zero, suc, _+_, _-_, _*_, _/_, _^_, _≤_, _<_}
-use native.Mathlib.Nat.{le-refl, le-trans, le-of-eq, le-of-lt, lt-of-lt-of-le, lt-of-le-of-lt, lt-of-not-le, not-le-of-lt, le-antisymm, le-of-suc-le-suc, eq-or-lt-of-le, lt-irrefl, add-mul, add-le-add-iff-right, zero-add, zero-mul, pow-suc, mul-div-cancel, le-of-mul-le-mul-right, mul-le-mul, mul-le-mul-right, mul-lt-mul-of-pos-right, mul-pos}
+use native.Mathlib.Nat.{le-refl, le-trans, le-of-eq, le-of-lt, lt-of-lt-of-le, lt-of-le-of-lt, lt-of-not-le, not-le-of-lt, le-antisymm, le-of-suc-le-suc, eq-or-lt-of-le, lt-irrefl, add-mul, add-le-add-iff-right, zero-add, zero-mul, mul-div-cancel, le-of-mul-le-mul-right, mul-le-mul, mul-le-mul-right, mul-lt-mul-of-pos-right, mul-pos}
 use native.Mathlib.Decide.{decLe}
 use native.Mathlib.Omega.{arith}
 use lib.Dec.{T}
 use lib.Pow.{pow-pos, pow-add, pow-lt, pow-mono, shl-lt}
 use lib.Ieee.{Float, nan, inf, fin, Format, binary64, prec, emax, low, hid, up, down, size, toBits, ofBits, nanBits, isNan}
 use lib.Ieee.Digits.{size-lt, size-le}
-use lib.Ieee.Fits.{two, down-pos, round-fits}
+use lib.Ieee.Fits.{two, two-le-pos, down-pos, round-fits}
 use lib.Ieee.Bits.{ofBits-toBits, nanBits-is}
 use lib.Ieee.Scale.{overflow}
 use lib.Ieee.Order.{drop, kept}
@@ -19,7 +19,7 @@ use Rattle.roots.specs.Sqrt.{rootOf, sqrtOf}
 use Rattle.roots.specs.Correct.{InUnits, fourSquares}
 use Rattle.roots.specs.Steps.{NearestRoot, RootBits}
 use Rattle.roots.proofs.WholeRoot.{four-pow}
-use Rattle.roots.proofs.Spacing.{few-spaced, carried, half-power}
+use Rattle.roots.proofs.Spacing.{power-split, few-spaced, carried, half-power}
 use Rattle.roots.proofs.Root.{square-lt, top, bottom, rootUnits, root-against}
 use Rattle.roots.proofs.Digit.{reached, bounded}
 use Rattle.roots.proofs.Correct.{root-is, kept-le, root-counted}
@@ -148,10 +148,7 @@ bits-are f r q h v lo hi = elim (eq-or-lt-of-le hi) [
 ]
   where
     doubled : 2 ^ prec f ≡ hid f * 2
-    doubled = ap (λ (x : ℕ). 2 ^ x) (back (prec f) (two f)) ∙ pow-suc 2 (prec f - 1)
-      where
-        back : (p : ℕ) → 2 ≤ p → p ≡ suc (p - 1)
-        back p h = omega arith
+    doubled = power-split (prec f) 1 (two-le-pos (prec f) (two f))
 
     next : (h d q : ℕ) → q ≡ d * 2 → suc h * d + d ≡ h * d + q
     next h d q e = omega arith

@@ -4,11 +4,11 @@ use mathlib.Core.Path.{_≡_, refl, sym, ap, _∙_}
 use mathlib.Core.Logic.{inl, inr}
 use mathlib.Core.Bool.{Bool, true, false, _&&_}
 use Prim.Native.Nat.{ℕ, zero, suc, _+_, _-_, _*_, _/_, _%_, _^_, _≤_, _<_, zero-le, compare}
-use native.Mathlib.Nat.{le-trans, le-of-eq, lt-of-le-of-lt, not-le-of-lt, eq-or-lt-of-le, mul-le-mul, mul-le-mul-right, mul-assoc, mul-div-cancel, div-div-eq-div-mul, pow-suc, zero-mul}
+use native.Mathlib.Nat.{le-trans, le-of-eq, lt-of-le-of-lt, not-le-of-lt, eq-or-lt-of-le, mul-le-mul, mul-le-mul-right, mul-assoc, mul-div-cancel, div-div-eq-div-mul, zero-mul}
 use native.Mathlib.Omega.{arith}
 use lib.IntN.{ℤ}
 use lib.Dec.{T, eqb, leb, ltb, ltb→lt, lit<}
-use lib.Pow.{pow-pos, pow-add, pow-lt, shl-lt}
+use lib.Pow.{pow-pos, pow-lt, shl-lt}
 use lib.Ieee.{Float, nan, inf, fin, Format, binary64, prec, low, hid, up, down, size, fits, round, toBits}
 use lib.Ieee.Digits.{size-le}
 use lib.Ieee.Fits.{two, down-pos, and-r, round-fits, nan-fits, inf-fits, nearest-le, kept-lt}
@@ -16,13 +16,16 @@ use lib.Ieee.Scale.{overflow, round-val, round-under}
 use lib.Ieee.Order.{drop, kept}
 use Rattle.roots.specs.Sqrt.{rootOf, sqrtOf}
 use Rattle.roots.specs.Correct.{InUnits, fourSquares, NoNearer, Tie, Rounded, RootIsRounded, SqrtIsRounded}
-use Rattle.roots.proofs.Spacing.{Spaced, carried, half-power, spaced}
+use Rattle.roots.proofs.Spacing.{Spaced, power-split, carried, half-power, spaced}
 use Rattle.roots.proofs.Nearest.{step, round-beside, round-even}
 use Rattle.roots.proofs.Root.{top, bottom, rootUnits, root-against, root-small}
 
 pub root-is : (f : Format) (a c : ℕ) → rootOf f a c ≡ round f false (top f a c) (bottom f)
 unfolding rootOf
 root-is f a c = refl
+
+half-doubled : (p : ℕ) → 2 ≤ p → 2 ^ (p - 1) ≡ 2 ^ (p - 1 - 1) * 2
+half-doubled p h = power-split (p - 1) 1 (omega arith)
 
 -- ---- an even number of units, counted in the last place, has a pattern that ends in 0
 even-bits : (f : Format) (r : Float) (q j : ℕ) → InUnits f r false (q * 2 ^ j) → q < 2 ^ prec f → q % 2 ≡ 0 → toBits f r % 2 ≡ 0
@@ -34,18 +37,12 @@ even-bits f (fin s m e) q j v h z =
     let k = size (q * 2 ^ j) - p in
     let units : m * up e * 2 ^ low f / down e ≡ q * 2 ^ j = ap (λ (x : ℕ). x / down e) (v .1) ∙ mul-div-cancel (q * 2 ^ j) (down-pos e) in
     let over : k ≤ j = spare (size (q * 2 ^ j)) p j (size-le (q * 2 ^ j) (p + j) (shl-lt p j h)) in
-    let split : q * 2 ^ j ≡ q * 2 ^ (j - k) * 2 ^ k = ap (λ (x : ℕ). q * x) (ap (λ (x : ℕ). 2 ^ x) (sym (back j k over)) ∙ pow-add 2 (j - k) k) ∙ sym (mul-assoc q (2 ^ (j - k)) (2 ^ k)) in
+    let split : q * 2 ^ j ≡ q * 2 ^ (j - k) * 2 ^ k = ap (λ (x : ℕ). q * x) (power-split j k over) ∙ sym (mul-assoc q (2 ^ (j - k)) (2 ^ k)) in
     let last : q * 2 ^ j / 2 ^ k ≡ q * 2 ^ (j - k) = ap (λ (x : ℕ). x / 2 ^ k) split ∙ mul-div-cancel (q * 2 ^ (j - k)) (pow-pos k) in
-    rw (v .0, units, last) (sum-even k (hid f) (2 ^ (p - 2)) q (2 ^ (j - k)) (ap (λ (x : ℕ). 2 ^ x) (less-two p (two f)) ∙ pow-suc 2 (p - 2)) z)
+    rw (v .0, units, last) (sum-even k (hid f) (2 ^ (p - 1 - 1)) q (2 ^ (j - k)) (half-doubled p (two f)) z)
   where
-    back : (a b : ℕ) → b ≤ a → a - b + b ≡ a
-    back a b h = omega arith
-
     spare : (z p j : ℕ) → z ≤ p + j → z - p ≤ j
     spare z p j h = omega arith
-
-    less-two : (p : ℕ) → 2 ≤ p → p - 1 ≡ suc (p - 2)
-    less-two p h = omega arith
 
     sum-even : (k H G q X : ℕ) → H ≡ G * 2 → q % 2 ≡ 0 → (0 + k * H + q * X) % 2 ≡ 0
     sum-even k H G q X e z = let d : q ≡ 2 * (q / 2) = omega arith in rw (e, d) (doubled k G (q / 2) X)
@@ -70,11 +67,8 @@ kept-even f r n c v z =
     ]
   where
     power-even : (p : ℕ) → 2 ≤ p → 2 ^ (p - 1) % 2 ≡ 0
-    power-even p h = doubled (2 ^ (p - 1)) (2 ^ (p - 2)) (ap (λ (x : ℕ). 2 ^ x) (less-two p h) ∙ pow-suc 2 (p - 2))
+    power-even p h = doubled (2 ^ (p - 1)) (2 ^ (p - 1 - 1)) (half-doubled p h)
       where
-        less-two : (p : ℕ) → 2 ≤ p → p - 1 ≡ suc (p - 2)
-        less-two p h = omega arith
-
         doubled : (x y : ℕ) → x ≡ y * 2 → x % 2 ≡ 0
         doubled x y e = omega arith
 

@@ -10,20 +10,21 @@ use lib.IntN.{ℤ, pos, negsuc}
 use lib.Dec.{T, eqb, leb, ltb, leb→le, ltb→lt}
 use lib.Pow.{pow-mono, pow-add, pow-pos, pow-lt, shl-lt}
 use lib.Ieee.{Float, nan, inf, fin, Format, prec, emax, low, up, down, fits}
+use lib.Ieee.Digits.{back}
 use lib.Ieee.Fits.{two, two-le-pos, and-l, and-r, down-pos}
 use Rattle.roots.specs.Correct.{InUnits}
 
 abbrev pub Spaced : Format → ℕ → Type 0
 Spaced f Y = (k : ℕ) → 2 ^ (prec f - 1 + k) ≤ Y → Y / 2 ^ k * 2 ^ k ≡ Y
 
--- a - b + b, for a b that is at most a
-back : (a b : ℕ) → b ≤ a → a - b + b ≡ a
-back a b h = omega arith
+-- a power of two by a smaller one
+pub power-split : (a b : ℕ) → b ≤ a → 2 ^ a ≡ 2 ^ (a - b) * 2 ^ b
+power-split a b h = ap (λ (x : ℕ). 2 ^ x) (sym (back a b h)) ∙ pow-add 2 (a - b) b
 
 -- m * 2 ^ e, with m below 2 ^ p
 pub multiple : (p m e k : ℕ) → 0 < p → m < 2 ^ p → 2 ^ (p - 1 + k) ≤ m * 2 ^ e → m * 2 ^ e / 2 ^ k * 2 ^ k ≡ m * 2 ^ e
 multiple p m e k P M h =
-    let split : m * 2 ^ e ≡ m * 2 ^ (e - k) * 2 ^ k = ap (λ (x : ℕ). m * x) (ap (λ (x : ℕ). 2 ^ x) (sym (back e k enough)) ∙ pow-add 2 (e - k) k) ∙ sym (mul-assoc m (2 ^ (e - k)) (2 ^ k)) in
+    let split : m * 2 ^ e ≡ m * 2 ^ (e - k) * 2 ^ k = ap (λ (x : ℕ). m * x) (power-split e k enough) ∙ sym (mul-assoc m (2 ^ (e - k)) (2 ^ k)) in
     ap (λ (x : ℕ). x / 2 ^ k * 2 ^ k) split ∙ ap (λ (x : ℕ). x * 2 ^ k) (mul-div-cancel (m * 2 ^ (e - k)) (pow-pos k)) ∙ sym split
   where
     past : (p e k : ℕ) → 0 < p → suc e ≤ k → p + e ≤ p - 1 + k
@@ -69,7 +70,7 @@ written f s m e h =
     by-exponent (negsuc i) l =
         let j = low f - suc i in
         let under : suc i ≤ low f = le-of-suc-le-suc (lt-of-not-le λ (g : suc (low f) ≤ suc i). not-le-of-lt (pow-lt g) l) in
-        let whole : 2 ^ low f ≡ 2 ^ j * 2 ^ suc i = ap (λ (x : ℕ). 2 ^ x) (sym (back (low f) (suc i) under)) ∙ pow-add 2 j (suc i) in
+        let whole : 2 ^ low f ≡ 2 ^ j * 2 ^ suc i = power-split (low f) (suc i) under in
         (j, ap (λ (x : ℕ). x * 2 ^ low f) (mul-one (suc m)) ∙ ap (λ (x : ℕ). suc m * x) whole ∙ sym (mul-assoc (suc m) (2 ^ j) (2 ^ suc i)))
 
 -- a value has only one number of units

@@ -13,7 +13,7 @@ use lib.Ieee.Order.{drop}
 use lib.Ieee.Positive.{positive, num, den}
 use Rattle.roots.specs.Sqrt.{sqrtOf}
 use Rattle.roots.specs.Correct.{Tie, SqrtNeverTies}
-use Rattle.roots.proofs.Spacing.{Spaced, written, one-count, spaced}
+use Rattle.roots.proofs.Spacing.{Spaced, power-split, written, one-count, spaced}
 use Rattle.roots.proofs.Nearest.{step, all-digits}
 use Rattle.roots.proofs.Root.{top, bottom, rootUnits, root-against}
 use Rattle.roots.proofs.Correct.{root-half, root-counted, sqrt-below}
@@ -21,8 +21,8 @@ use Rattle.roots.proofs.Correct.{root-half, root-counted, sqrt-below}
 -- an odd number of p + 1 digits: its square is not m * 2 ^ J for a smaller m and a J above 0
 odd-square : (p w k m J : ℕ) → m < 2 ^ p → 0 < J → (0 < k → 2 ^ p ≤ 2 * w) → (2 * w + 1) * 2 ^ k * ((2 * w + 1) * 2 ^ k) ≡ m * 2 ^ J → ⊥
 odd-square p w k m J M j digits e = elim (decLe J (k + k)) [
-  | yes h ↦ large (2 ^ (k + k - J)) (digits (some k J j h)) (pow-pos (k + k - J)) (factor J (pow-pos J) m o (k + k - J) (sym e ∙ twice ∙ ap (λ (x : ℕ). o * x) (split (k + k) J h)))
-  | no g ↦ even (J - (k + k)) (over g) (factor (k + k) (pow-pos (k + k)) o m (J - (k + k)) (sym twice ∙ e ∙ ap (λ (x : ℕ). m * x) (split J (k + k) (under g))))
+  | yes h ↦ large (2 ^ (k + k - J)) (digits (some k J j h)) (pow-pos (k + k - J)) (factor J (pow-pos J) m o (k + k - J) (sym e ∙ twice ∙ ap (λ (x : ℕ). o * x) (power-split (k + k) J h)))
+  | no g ↦ even (J - (k + k)) (over g) (factor (k + k) (pow-pos (k + k)) o m (J - (k + k)) (sym twice ∙ e ∙ ap (λ (x : ℕ). m * x) (power-split J (k + k) (under g))))
 ]
   where
     o : ℕ
@@ -37,12 +37,6 @@ odd-square p w k m J M j digits e = elim (decLe J (k + k)) [
       where
         regrouped : (y P : ℕ) → y * P * (y * P) ≡ y * y * (P * P)
         regrouped y P = omega arith
-
-    split : (a b : ℕ) → b ≤ a → 2 ^ a ≡ 2 ^ (a - b) * 2 ^ b
-    split a b h = ap (λ (x : ℕ). 2 ^ x) (back a b h) ∙ pow-add 2 (a - b) b
-      where
-        back : (a b : ℕ) → b ≤ a → a ≡ a - b + b
-        back a b h = omega arith
 
     under : (J ≤ k + k → ⊥) → k + k ≤ J
     under g = let h : k + k < J = lt-of-not-le g in omega arith
@@ -100,11 +94,8 @@ no-tie f a c Y m j C M v g t =
 
     digits : (n d k : ℕ) → drop (prec f) n d ≡ k → 0 < k → 2 ^ prec f ≤ 2 * (n / (d * 2 ^ k))
     digits n d zero e h = absurd (lt-irrefl 0 h)
-    digits n d (suc k) e h = le-trans (le-of-eq (ap (λ (x : ℕ). 2 ^ x) (back (prec f) (two f)) ∙ pow-suc 2 (prec f - 1))) (doubled (all-digits (prec f) n d k (two-le-pos (prec f) (two f)) e))
+    digits n d (suc k) e h = le-trans (le-of-eq (power-split (prec f) 1 (two-le-pos (prec f) (two f)))) (doubled (all-digits (prec f) n d k (two-le-pos (prec f) (two f)) e))
       where
-        back : (p : ℕ) → 2 ≤ p → p ≡ suc (p - 1)
-        back p h = omega arith
-
         doubled : {x y : ℕ} → x ≤ y → x * 2 ≤ 2 * y
         doubled h = omega arith
 

@@ -1,13 +1,13 @@
 -- Where x is at most y and not below z, y is not below z. Of finite values the tests compare fractions, and each keeps its outcome where both are brought to the denominator of all three.
 -- What is left are whole numbers with signs.
 use mathlib.Core.Path.{_≡_, refl, sym, _∙_}
-use mathlib.Core.Bool.{Bool, true, false, _||_, _&&_, true≢false}
+use mathlib.Core.Bool.{Bool, true, false, not, _||_, _&&_, true≢false}
 use Prim.Native.Nat.{ℕ, _+_, _*_, _≤_, _<_}
 use native.Mathlib.Nat.{le-of-lt, le-of-eq, zero-mul, add-mul, mul-right-comm, mul-le-mul-right, mul-lt-mul-of-pos-right}
 use native.Mathlib.Omega.{arith}
 use borrow.Author.Tests.{ltb-true, ltb-false, lt-ltb, le-ltb, eqb-true}
 use lib.Dec.{T, ltb, eqb}
-use lib.Ieee.{Float, nan, inf, fin, up, down, below, level, lt, eq, le}
+use lib.Ieee.{Float, nan, inf, fin, isNan, up, down, below, level, lt, eq, le}
 use lib.Ieee.Fits.{down-pos}
 use lib.Ieee.Bits.{is-true}
 
@@ -66,6 +66,13 @@ on-fractions r s t b d a e c f D E F p q =
     sym (scaled r t (b * f) (c * d) e E) ∙ rw (mul-right-comm b f e) (on-whole r s t (b * e * f) (a * d * f) (c * d * e) P Q)
 
 -- ---- every case of the order
+-- a number that equals itself is not NaN
+pub not-nan : (x : Float) → eq x x ≡ true → T (not (isNan x))
+unfolding eq isNan
+not-nan nan h = absurd (true≢false (sym h))
+not-nan (inf s) h = tt
+not-nan (fin s m e) h = tt
+
 pub lt-le : (x y : Float) → lt x y ≡ true → T (le x y)
 unfolding le
 lt-le x y h = rw h tt

@@ -1,17 +1,8 @@
 -- A number that equals itself is no NaN, so it has one bit pattern.
 use borrow.Author.Needs.{needs}
-use mathlib.Core.Path.{_≡_, sym}
-use mathlib.Core.Bool.{true, not, true≢false}
-use lib.Dec.{T}
-use lib.Ieee.{Float, nan, inf, fin, eq, isNan}
+use Rattle.vectors.proofs.FloatOrder.{not-nan}
 use Rattle.examples.proofs.print.bits.Statement.{statement}
 use Rattle.examples.proofs.print.bits.Tie as tie
-
-not-nan : (x : Float) → eq x x ≡ true → T (not (isNan x))
-unfolding eq isNan
-not-nan nan h = absurd (true≢false (sym h))
-not-nan (inf s) h = tt
-not-nan (fin s m e) h = tt
 
 float-to-bits-print-hex : tie.Need-float-to-bits-print-hex
 float-to-bits-print-hex c = not-nan (c .before .args .x) (c .if1 .taken)

@@ -1,17 +1,8 @@
 -- A number that equals itself is no NaN, so it has bits of its own.
 use borrow.Author.Needs.{needs}
-use mathlib.Core.Path.{_≡_, sym, subst}
-use mathlib.Core.Bool.{true, not}
-use lib.Dec.{T}
-use lib.Ieee.{Float, nan, inf, fin, eq, isNan}
+use Rattle.vectors.proofs.FloatOrder.{not-nan}
 use Rattle.replay.proofs.numbers.same.Statement.{statement}
 use Rattle.replay.proofs.numbers.same.Tie as tie
-
-not-nan : (x : Float) → eq x x ≡ true → T (not (isNan x))
-unfolding eq isNan
-not-nan nan h = subst T (sym h) tt
-not-nan (inf s) h = tt
-not-nan (fin s m e) h = tt
 
 float-to-bits-result : tie.Need-float-to-bits-result
 float-to-bits-result c = not-nan (c .before .args .x) (c .if1 .taken)
