@@ -11,12 +11,12 @@ use Rattle.bench.specs.Given.{edgesFit}
 use Rattle.bench.specs.Rows.{first}
 use Rattle.bench.specs.Step.{Begun, beginRows, Begins}
 
-module _ (n : ℕ) (b : Begun) (e : Float) (w : List Float) (at : stagedShape n w ≡ b .now) where
-  pub begins-seven : edgesFit n (b .now .positions) ≡ false → Begins n b 7 e w
+module _ (n : ℕ) (b : Begun) (e : Float) (w : List Float) (at : stagedShape n w ≡ b .staged) where
+  pub begins-seven : edgesFit n (b .staged .positions) ≡ false → Begins n b 7 e w
   unfolding beginRows first every
   begins-seven h = record { number = rw h; energyIs = λ z. absurd (omega arith); systemIs = λ z. absurd (omega arith); shapeIs = at }
 
-  module _ (h : edgesFit n (b .now .positions) ≡ true) where
+  module _ (h : edgesFit n (b .staged .positions) ≡ true) where
     pub begins-eight : systemIsFinite (b .energy) (b .system) ≡ false → Begins n b 8 e w
     unfolding beginRows first every
     begins-eight g = record { number = rw (h, g); energyIs = λ z. absurd (omega arith); systemIs = λ z. absurd (omega arith); shapeIs = at }

@@ -138,7 +138,7 @@ module _ (v c b : ℕ) (x : Strand) (f : Fine x) (vn : v < x .count) (c4 : c < 4
   pin-tracks : (i j : ℕ) (t : Story) → Tracks i j t x → Tracks i j (next i j t (pinned v c b)) (pinnedOn v c b x)
   unfolding next pinnedOn
   pin-tracks i j empty q = q
-  pin-tracks i j (laid g now always) q = λ u w. (pin-byte i j now w (q u w .0), q u w .1)
+  pin-tracks i j (laid g last always) q = λ u w. (pin-byte i j last w (q u w .0), q u w .1)
 
 pin-next : (v c b : ℕ) (x : Strand) → Fine x → first (caseAt (pin v c b) x .rows) ≡ 0 → Next (eventsAt (pin v c b)) x (pinnedOn v c b x)
 unfolding story pinnedOn caseAt demandsOf

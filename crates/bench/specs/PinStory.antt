@@ -58,9 +58,9 @@ pub data Story : Type 0 where
 unfoldable pub next : ℕ → ℕ → Story → Event → Story
 next i j t (loaded xs) = laid (position i j xs) false true
 next i j empty (pinned v c x) = empty
-next i j (laid g now always) (pinned v c x) = laid g (cond (eqb v i && eqb c j) (not (eqb x 0)) now) always
+next i j (laid g last always) (pinned v c x) = laid g (cond (eqb v i && eqb c j) (not (eqb x 0)) last) always
 next i j empty stepped = empty
-next i j (laid g now always) stepped = laid g now (always && now)
+next i j (laid g last always) stepped = laid g last (always && last)
 next i j t unloaded = empty
 
 unfoldable pub story : ℕ → ℕ → Story → List Event → Story
@@ -70,5 +70,5 @@ story i j t (e ∷ es) = story i j (next i j t e) es
 -- x is the number that the load gave, if the component was pinned at every step since; and there was a load.
 abbrev pub StaysIfPinned : Story → Float → Type 0
 StaysIfPinned empty x = ⊥
-StaysIfPinned (laid g now true) x = x ≡ g
-StaysIfPinned (laid g now false) x = Unit
+StaysIfPinned (laid g last true) x = x ≡ g
+StaysIfPinned (laid g last false) x = Unit

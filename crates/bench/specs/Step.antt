@@ -99,33 +99,33 @@ withPicked n xyz (At v goal) s = withPick n v (vec3At xyz v) goal s
 abbrev pub bendtwist : Settings → Vec3
 bendtwist g = vec3 (g .«stiff_bendtwist0») (g .«stiff_bendtwist1») (g .«stiff_bendtwist2»)
 
--- lines 1117 to 1128, of the shape now; "reported energy excludes" the pick
+-- lines 1117 to 1128, of the staged shape; "reported energy excludes" the pick
 unfoldable pub energyOf : ℕ → Settings → List Float → Shape → Float
-energyOf n g rest now = hairEnergy n (shapeIn n rest) now (g .«stiff_length») (bendtwist g)
+energyOf n g rest staged = hairEnergy n (shapeIn n rest) staged (g .«stiff_length») (bendtwist g)
 
 unfoldable pub pickedSystem : ℕ → Settings → List Float → Shape → Pick → System
-pickedSystem n g rest now pick = withPicked n (now .positions) pick (hairSystem n (shapeIn n rest) now (g .«stiff_length») (bendtwist g))
+pickedSystem n g rest staged pick = withPicked n (staged .positions) pick (hairSystem n (shapeIn n rest) staged (g .«stiff_length») (bendtwist g))
 
 -- "Dynamic adds 1/(dt·dt)"
 unfoldable pub timed : Time → ℕ → System → System
 timed still n s = s
 timed (over dt) n s = withInertia n dt s
 
--- What a step begins with: the shape now, its energy, and the system with pick and inertia.
+-- What a step begins with: the staged shape, its energy, and the system with pick and inertia.
 pub record Begun : Type 0 where
-  pub now : Shape
+  pub staged : Shape
   pub energy : Float
   pub system : System
 
 unfoldable pub begunWith : Time → ℕ → Settings → List Float → Pick → Shape → Begun
-begunWith time n g rest pick now =
-    let e : Float = energyOf n g rest now in
-    let s : System = timed time n (pickedSystem n g rest now pick) in
-    record { now = now; energy = e; system = s }
+begunWith time n g rest pick staged =
+    let e : Float = energyOf n g rest staged in
+    let s : System = timed time n (pickedSystem n g rest staged pick) in
+    record { staged = staged; energy = e; system = s }
 
 -- "some edge's computed squared length not finite or not above 0"; "energy, a gradient or block number not finite after pick and inertia, before pins"
 unfoldable pub beginRows : ℕ → Begun → List Row
-beginRows n b = unless 7 (edgesFit n (b .now .positions) ∷ []) ∷ unless 8 (systemIsFinite (b .energy) (b .system) ∷ []) ∷ []
+beginRows n b = unless 7 (edgesFit n (b .staged .positions) ∷ []) ∷ unless 8 (systemIsFinite (b .energy) (b .system) ∷ []) ∷ []
 
 -- ---- the solve
 
@@ -181,9 +181,9 @@ outcomeIsFinite o = isFinite (o .ratio) && every vec4IsFinite (o .left .u)
 unfoldable pub drapeIsFinite : ℕ → List Float → Bool
 drapeIsFinite n d = every isFinite (part d placePositions (3 * n)) && every isFinite (part d placeFrames (3 * n)) && every isFinite (part d placeVelocities (3 * n))
 
--- now is the shape that the solve o was of, d the drape that the step would leave; "some turned edge has 1+c < 2^-20" is 10
+-- staged is the shape that the solve o was of, d the drape that the step would leave; "some turned edge has 1+c < 2^-20" is 10
 unfoldable pub finishRows : ℕ → List ℕ → Shape → Outcome → List Float → List Row
-finishRows n pins now o d = unless 9 (outcomeIsFinite o ∷ []) ∷ unless 10 (turnsFit n pins now (o .left .u) ∷ []) ∷ unless 11 (drapeIsFinite n d ∷ []) ∷ []
+finishRows n pins staged o d = unless 9 (outcomeIsFinite o ∷ []) ∷ unless 10 (turnsFit n pins staged (o .left .u) ∷ []) ∷ unless 11 (drapeIsFinite n d ∷ []) ∷ []
 
 -- ---- the whole step
 
@@ -200,8 +200,8 @@ updateOf t pick time =
     let n : ℕ = t .count in
     let b : Begun = begunWith time n (t .settings) (t .rest) pick (shapeBy time n (t .pins) (t .drape)) in
     let o : Outcome = solved n (t .pins) (t .settings .«conv_ratio») (b .system) in
-    let d : List Float = drapeAfter time n (t .pins) (t .drape) (updateSolutionHair n (t .pins) (b .now) (o .left .u)) in
-    record { rows = beginRows n b ++ finishRows n (t .pins) (b .now) o d; energy = b .energy; ratio = o .ratio; count = o .count; drape = d }
+    let d : List Float = drapeAfter time n (t .pins) (t .drape) (updateSolutionHair n (t .pins) (b .staged) (o .left .u)) in
+    record { rows = beginRows n b ++ finishRows n (t .pins) (b .staged) o d; energy = b .energy; ratio = o .ratio; count = o .count; drape = d }
 
 -- ---- a step and its parts, by the number k that it is refused with
 
@@ -226,4 +226,4 @@ pub record Begins (n : ℕ) (b : Begun) (k : ℕ) (e : Float) (w : List Float) :
   pub number : k ≡ first (beginRows n b)
   pub energyIs : k ≡ 0 → e ≡ b .energy
   pub systemIs : k ≡ 0 → systemAt n w ≡ b .system
-  pub shapeIs : stagedShape n w ≡ b .now
+  pub shapeIs : stagedShape n w ≡ b .staged

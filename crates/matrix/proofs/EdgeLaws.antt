@@ -35,10 +35,10 @@ pub lengths-more : (m : ℕ) (p : List Vec3) → set (edgeLengths m p) m (length
 unfolding edgeLengths
 lengths-more m p = rw (add-one m) (rw zero-add at (put-more (replicate 32 plusZero) 0 m (lengthAt p)))
 
-pub stretches-by : (n : ℕ) (rest now : List Vec3) (k : Float) → n ≤ 32 → stretchesBy n (edgeLengths (n - 1) rest) now k ≡ stretches n rest now k
+pub stretches-by : (n : ℕ) (rest staged : List Vec3) (k : Float) → n ≤ 32 → stretchesBy n (edgeLengths (n - 1) rest) staged k ≡ stretches n rest staged k
 unfolding stretchesBy stretches stretchBy stretchAt lengthAt edgeLength measuredOf vec3Norm
-stretches-by n rest now k h = table-ext (n - 1) _ _ (λ i b. ap (λ (x : Float). stretchElement i (stretchBy now k i x)) (length-of (n - 1) rest i b (omega arith)))
+stretches-by n rest staged k h = table-ext (n - 1) _ _ (λ i b. ap (λ (x : Float). stretchElement i (stretchBy staged k i x)) (length-of (n - 1) rest i b (omega arith)))
 
-pub bend-by-frames : (rest now : Shape) (k : Vec3) (i : ℕ) → bendBetween (framesAt rest now i) (framesAt rest now (i + 1)) k ≡ bendAt rest now k i
+pub bend-by-frames : (rest staged : Shape) (k : Vec3) (i : ℕ) → bendBetween (framesAt rest staged i) (framesAt rest staged (i + 1)) k ≡ bendAt rest staged k i
 unfolding bendBetween framesAt frameAt bendAt rodOf wdwdwdwDarbouxRodHairApproxHessian cdcRodDarboux darbouxRod
-bend-by-frames rest now k i = let e : i + 1 + 1 ≡ i + 2 = omega arith in rw e
+bend-by-frames rest staged k i = let e : i + 1 + 1 ≡ i + 2 = omega arith in rw e

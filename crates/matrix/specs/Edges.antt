@@ -25,17 +25,17 @@ edgeLengths m p = put (replicate 32 plusZero) 0 (table m (lengthAt p))
 
 -- the stretch of the edge from vertex i by its length at rest, and all stretch elements
 unfoldable pub stretchBy : List Vec3 → Float → ℕ → Float → Stretch
-stretchBy now k i ini = wdwddwSquaredLengthDifference k (vec3At now i) (vec3At now (i + 1)) ini
+stretchBy staged k i ini = wdwddwSquaredLengthDifference k (vec3At staged i) (vec3At staged (i + 1)) ini
 
 unfoldable pub stretchesBy : ℕ → List Float → List Vec3 → Float → List Element
-stretchesBy n ini now k = table (n - 1) (λ i. stretchElement i (stretchBy now k i (getD ini i nan)))
+stretchesBy n ini staged k = table (n - 1) (λ i. stretchElement i (stretchBy staged k i (getD ini i nan)))
 
 -- the edge from vertex i, and the bend and twist of an edge and the next one
 unfoldable pub frameAt : Shape → ℕ → EdgeFrame
 frameAt s i = edgeFrame (vec3At (s .positions) i) (vec3At (s .positions) (i + 1)) (vec3At (s .frames) i)
 
 unfoldable pub framesAt : Shape → Shape → ℕ → EdgeFrames
-framesAt rest now i = record { ini = frameAt rest i; def = frameAt now i }
+framesAt rest staged i = record { ini = frameAt rest i; def = frameAt staged i }
 
 unfoldable pub bendBetween : EdgeFrames → EdgeFrames → Vec3 → Bend
 bendBetween a b k = approxHessianOf (cdcOf (a .def) (b .def)) k (darbouxOf (a .ini .frame) (b .ini .frame))

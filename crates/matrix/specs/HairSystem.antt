@@ -89,18 +89,18 @@ rodOf s i = record { p0 = vec3At (s .positions) i; p1 = vec3At (s .positions) (i
 
 -- lines 765 to 775: the rest length of the edge from vertex i, and its stretch
 unfoldable pub stretchAt : List Vec3 → List Vec3 → Float → ℕ → Stretch
-stretchAt rest now k i = wdwddwSquaredLengthDifference k (vec3At now i) (vec3At now (i + 1)) (edgeLength (vec3At rest i) (vec3At rest (i + 1)) .value)
+stretchAt rest staged k i = wdwddwSquaredLengthDifference k (vec3At staged i) (vec3At staged (i + 1)) (edgeLength (vec3At rest i) (vec3At rest (i + 1)) .value)
 
 -- lines 797 to 817: the Darboux vector at rest, and what the difference from it makes
 unfoldable pub bendAt : Shape → Shape → Vec3 → ℕ → Bend
-bendAt rest now k i = wdwdwdwDarbouxRodHairApproxHessian (rodOf now i) k (darbouxRod (rodOf rest i))
+bendAt rest staged k i = wdwdwdwDarbouxRodHairApproxHessian (rodOf staged i) k (darbouxRod (rodOf rest i))
 
 -- lines 763 and 794: an element for each edge, and for each two edges
 unfoldable pub stretches : ℕ → List Vec3 → List Vec3 → Float → List Element
-stretches n rest now k = table (n - 1) (λ i. stretchElement i (stretchAt rest now k i))
+stretches n rest staged k = table (n - 1) (λ i. stretchElement i (stretchAt rest staged k i))
 
 unfoldable pub bends : ℕ → Shape → Shape → Vec3 → List Element
-bends n rest now k = table (n - 2) (λ i. bendElement i (bendAt rest now k i))
+bends n rest staged k = table (n - 2) (λ i. bendElement i (bendAt rest staged k i))
 
 -- s, with v or m added where the test holds; "adding blocks adds every entry"
 abbrev pub rowPlusIf : Bool → Vec4 → Vec4 → Vec4
@@ -169,9 +169,9 @@ unfoldable pub withDiagonal : ℕ → Float → System → System
 withDiagonal n c s = record { gradient = s .gradient; rows = matrixOf n (λ i j. changedIf (eqb i j) (diagonalPlus c) (blockIn n (s .rows) i j)) }
 
 -- `wdwddw_hair_system`: all stretch elements upward, then all bend elements; the damping is +0
-module _ (n : ℕ) (rest now : Shape) (stretch : Float) (bend : Vec3) where
+module _ (n : ℕ) (rest staged : Shape) (stretch : Float) (bend : Vec3) where
   unfoldable pub hairElements : List Element
-  hairElements = stretches n (rest .positions) (now .positions) stretch ++ bends n rest now bend
+  hairElements = stretches n (rest .positions) (staged .positions) stretch ++ bends n rest staged bend
 
   unfoldable pub hairEnergy : Float
   hairEnergy = sumEnergies plusZero hairElements

@@ -27,8 +27,8 @@ fn length_at(xyz: &[f64], p: usize, n: usize, i: usize) -> f64
 {
     let p0 = rows::load3(xyz, p + 3 * i);
     let p1 = rows::load3(xyz, p + 3 * i + 3);
-    let length = edge3::length(p0, p1);
-    length.value
+    let edge = edge3::length(p0, p1);
+    edge.value
 }
 
 // The lengths of all edges, of the positions at p, and 0 after them.

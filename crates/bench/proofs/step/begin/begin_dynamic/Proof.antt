@@ -27,7 +27,7 @@ returns c =
     let a = c .before .before .before .before .before .before .before .before .before .before .before .args in
     let b = begunWith (over (a .dt)) (a .n) (a .settings) (a .rest .now) (a .pick) (predictedShape (a .dt) (a .n) (a .pins .now) (a .drape .now)) in
     let h = c .before .before .before .before .before .stage-prediction .ensures in
-    begins-seven (a .n) b _ _ h (not-true (edgesFit (a .n) (b .now .positions)) (rw (c .before .staged-edges-fit .ensures, h) at (c .if1 .taken)))
+    begins-seven (a .n) b _ _ h (not-true (edgesFit (a .n) (b .staged .positions)) (rw (c .before .staged-edges-fit .ensures, h) at (c .if1 .taken)))
 
 assemble-requires : tie.Need-assemble-requires
 assemble-requires c κs = let p = c .before .before .before .before .before .before .before .before .before .before .before .before .pre in (p .0, (p .1 .0, search needs))
@@ -52,7 +52,7 @@ returns-2 c =
     let s = i .0 ∙ ap (withInertia (a .n) (a .dt)) (e .1 .0 ∙ ap (λ (s : Shape). pickedSystem (a .n) (a .settings) (a .rest .now) s (a .pick)) h) in
     let x = e .0 ∙ ap (energyOf (a .n) (a .settings) (a .rest .now)) h in
     let k = shape-kept _ _ (i .1 ∙ e .1 .1) (a .n) ∙ h in
-    let f = not-false (edgesFit (a .n) (b .now .positions)) (rw (c .before .before .before .before .before .before .before .before .before .before .before .before .staged-edges-fit .ensures, h) at (c .before .before .before .before .before .before .before .before .before .before .before .if1 .left)) in
+    let f = not-false (edgesFit (a .n) (b .staged .positions)) (rw (c .before .before .before .before .before .before .before .before .before .before .before .before .staged-edges-fit .ensures, h) at (c .before .before .before .before .before .before .before .before .before .before .before .if1 .left)) in
     begins-eight (a .n) b _ _ k f (not-true (systemIsFinite (b .energy) (b .system)) (rw (c .before .is-finite .ensures, s, x) at (c .if2 .taken)))
 
 same-length-3 : tie.Need-same-length-3
@@ -69,7 +69,7 @@ returns-3 c =
     let s = i .0 ∙ ap (withInertia (a .n) (a .dt)) (e .1 .0 ∙ ap (λ (s : Shape). pickedSystem (a .n) (a .settings) (a .rest .now) s (a .pick)) h) in
     let x = e .0 ∙ ap (energyOf (a .n) (a .settings) (a .rest .now)) h in
     let k = shape-kept _ _ (i .1 ∙ e .1 .1) (a .n) ∙ h in
-    let f = not-false (edgesFit (a .n) (b .now .positions)) (rw (c .before .before .before .before .before .before .before .before .before .before .before .before .staged-edges-fit .ensures, h) at (c .before .before .before .before .before .before .before .before .before .before .before .if1 .left)) in
+    let f = not-false (edgesFit (a .n) (b .staged .positions)) (rw (c .before .before .before .before .before .before .before .before .before .before .before .before .staged-edges-fit .ensures, h) at (c .before .before .before .before .before .before .before .before .before .before .before .if1 .left)) in
     begins-well (a .n) b _ _ k f (not-false (systemIsFinite (b .energy) (b .system)) (rw (c .before .is-finite .ensures, s, x) at (c .if2 .left))) x s
 
 pub begin-dynamic-spec : {M : Type 1} → statement M
