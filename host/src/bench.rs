@@ -88,7 +88,7 @@ impl Bench {
     /// The settings of the strand on a seat.
     pub fn settings(&self, seat: usize) -> Option<Settings> {
         let taken = self.count(seat) > 0;
-        taken.then(|| self.record.settings[seat])
+        taken.then(|| self.record.settings[seat].into())
     }
 
     /// Whether a component of a vertex is pinned; false where there is no such vertex.
@@ -113,7 +113,7 @@ impl Bench {
         if seat >= SEATS {
             return None;
         }
-        let Settings { stiff_length, stiff_bendtwist: [b0, b1, b2], conv_ratio } = self.record.settings[seat];
+        let Settings { stiff_length, stiff_bendtwist: [b0, b1, b2], conv_ratio } = self.record.settings[seat].into();
         let mut bits = vec![self.record.counts[seat] as u64];
         bits.extend([stiff_length, b0, b1, b2, conv_ratio].map(f64::to_bits));
         bits.extend(self.rest[192 * seat..192 * (seat + 1)].iter().map(|x| x.to_bits()));

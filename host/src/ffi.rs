@@ -1,14 +1,21 @@
 //! The library's calls behind safe functions; all `unsafe` of this crate is here.
 //!
 //! What the library asks of a caller (include/hairbench.h), and why each call below gives it:
-//! - pointers are not null and good for the lengths passed with them: both come from the same slice;
-//! - areas that are lent together do not overlap: each is a reference of its own, and of those at least one is
-//!   exclusive or all are shared;
-//! - nothing is kept: the library holds no pointer after a call, allocates nothing and calls nothing back.
+//! - pointers are not null, aligned, and good for the lengths passed with them: both come from the same slice;
+//! - what a call writes overlaps nothing else that it is given: that is an exclusive reference, areas that are only read
+//!   and lists are shared ones, and the record goes by value;
+//! - numbers are rounded to nearest, and small ones kept: Rust lets no program have it otherwise.
+//!
+//! The library holds no pointer after a call, allocates nothing and calls nothing back.
 //!
 //! Lengths, contents and other arguments are free: the library checks them and answers a number.
 
-use crate::{Pick, Settings, Strand, SEATS};
+#[path = "../include/hairbench.rs"]
+#[allow(dead_code)] // the root has no caller here
+mod exported;
+
+use crate::{Pick, Settings, Strand};
+pub(crate) use exported::{Changed, Place, Record, Report};
 
 /// Numbers or bytes of the areas.
 pub(crate) const REST: usize = 1152;
@@ -16,38 +23,24 @@ pub(crate) const DRAPE: usize = 2304;
 pub(crate) const PINS: usize = 768;
 pub(crate) const WORK: usize = 3264;
 
-/// Of each seat the number of vertices, 0 where it is empty, and the settings.
-#[repr(C)]
-#[derive(Clone, Copy, Debug, Default)]
-pub(crate) struct Record {
-    pub counts: [usize; SEATS],
-    pub settings: [Settings; SEATS],
+impl From<Settings> for exported::Settings {
+    fn from(settings: Settings) -> exported::Settings {
+        let Settings { stiff_length, stiff_bendtwist: [b0, b1, b2], conv_ratio } = settings;
+        exported::Settings {
+            stiff_length,
+            stiff_bendtwist0: b0,
+            stiff_bendtwist1: b1,
+            stiff_bendtwist2: b2,
+            conv_ratio,
+        }
+    }
 }
 
-/// The record after a load or an unload, and the number that the call is refused with, 0 for none.
-#[repr(C)]
-#[derive(Clone, Copy, Debug)]
-pub(crate) struct Changed {
-    pub seats: Record,
-    pub refusal: u8,
-}
-
-/// A step's answer: the number that it is refused with, 0 for none, and its numbers.
-#[repr(C)]
-#[derive(Clone, Copy, Debug)]
-pub(crate) struct Report {
-    pub number: u8,
-    pub energy: f64,
-    pub count: usize,
-    pub ratio: f64,
-}
-
-/// Where a look's numbers stand in their area, and how many they are.
-#[repr(C)]
-#[derive(Clone, Copy, Debug, PartialEq)]
-pub(crate) struct Place {
-    pub at: usize,
-    pub count: usize,
+impl From<exported::Settings> for Settings {
+    fn from(s: exported::Settings) -> Settings {
+        let stiff_bendtwist = [s.stiff_bendtwist0, s.stiff_bendtwist1, s.stiff_bendtwist2];
+        Settings { stiff_length: s.stiff_length, stiff_bendtwist, conv_ratio: s.conv_ratio }
+    }
 }
 
 /// The areas that a step is lent.
@@ -56,40 +49,6 @@ pub(crate) struct Lent<'a> {
     pub drape: &'a mut [f64],
     pub pins: &'a [u8],
     pub work: &'a mut [f64],
-}
-
-#[rustfmt::skip]
-extern "C" {
-    fn hairbench_load_value(
-        record: Record, rest: *mut f64, rest_length: usize, drape: *mut f64, drape_length: usize, pins: *mut u8,
-        pins_length: usize, seat: usize, n: usize, settings: Settings, positions: *const f64, positions_length: usize,
-        frames: *const f64, frames_length: usize,
-    ) -> Changed;
-    fn hairbench_unload_value(
-        record: Record, rest: *mut f64, rest_length: usize, drape: *mut f64, drape_length: usize, pins: *mut u8,
-        pins_length: usize, seat: usize,
-    ) -> Changed;
-    fn hairbench_pin(
-        record: Record, pins: *mut u8, pins_length: usize, seat: usize, vertex: usize, component: usize, byte: u8,
-    ) -> u8;
-    fn hairbench_look(
-        record: Record, rest: *const f64, rest_length: usize, drape: *const f64, drape_length: usize, seat: usize,
-        kind: usize,
-    ) -> Place;
-    fn hairbench_companion(
-        record: Record, rest: *const f64, rest_length: usize, drape: *const f64, drape_length: usize, seat: usize,
-        kind: usize,
-    ) -> u8;
-    fn hairbench_step_static(
-        record: Record, rest: *const f64, rest_length: usize, drape: *mut f64, drape_length: usize, pins: *const u8,
-        pins_length: usize, work: *mut f64, work_length: usize, seat: usize, flag: u8, vertex: usize, x: f64, y: f64,
-        z: f64,
-    ) -> Report;
-    fn hairbench_step_dynamic(
-        record: Record, rest: *const f64, rest_length: usize, drape: *mut f64, drape_length: usize, pins: *const u8,
-        pins_length: usize, work: *mut f64, work_length: usize, seat: usize, flag: u8, vertex: usize, x: f64, y: f64,
-        z: f64, dt: f64,
-    ) -> Report;
 }
 
 /// The three areas of a load or an unload.
@@ -105,7 +64,7 @@ pub(crate) fn load(record: Record, kept: Kept, seat: usize, strand: &Strand) -> 
     // Sound: pointer and length of each slice; the three areas are exclusive references, the lists shared ones that the
     // library only reads; the record goes by value.
     unsafe {
-        hairbench_load_value(
+        exported::hairbench_load_value(
             record,
             rest.as_mut_ptr(),
             rest.len(),
@@ -115,7 +74,7 @@ pub(crate) fn load(record: Record, kept: Kept, seat: usize, strand: &Strand) -> 
             pins.len(),
             seat,
             n,
-            settings,
+            settings.into(),
             positions.as_ptr(),
             positions.len(),
             frames.as_ptr(),
@@ -128,7 +87,7 @@ pub(crate) fn unload(record: Record, kept: Kept, seat: usize) -> Changed {
     let Kept { rest, drape, pins } = kept;
     // Sound: pointer and length of each slice; the three areas are exclusive references; the record goes by value.
     unsafe {
-        hairbench_unload_value(
+        exported::hairbench_unload_value(
             record,
             rest.as_mut_ptr(),
             rest.len(),
@@ -144,17 +103,17 @@ pub(crate) fn unload(record: Record, kept: Kept, seat: usize) -> Changed {
 /// The place is the vertex and the component.
 pub(crate) fn pin(record: Record, pins: &mut [u8], seat: usize, place: (usize, usize), byte: u8) -> u8 {
     // Sound: pointer and length of the one area, an exclusive reference; the record goes by value.
-    unsafe { hairbench_pin(record, pins.as_mut_ptr(), pins.len(), seat, place.0, place.1, byte) }
+    unsafe { exported::hairbench_pin(record, pins.as_mut_ptr(), pins.len(), seat, place.0, place.1, byte) }
 }
 
 pub(crate) fn look(record: Record, rest: &[f64], drape: &[f64], seat: usize, kind: usize) -> Place {
     // Sound: pointer and length of each slice; the library only reads them.
-    unsafe { hairbench_look(record, rest.as_ptr(), rest.len(), drape.as_ptr(), drape.len(), seat, kind) }
+    unsafe { exported::hairbench_look(record, rest.as_ptr(), rest.len(), drape.as_ptr(), drape.len(), seat, kind) }
 }
 
 pub(crate) fn companion(record: Record, rest: &[f64], drape: &[f64], seat: usize, kind: usize) -> u8 {
     // Sound: pointer and length of each slice; the library only reads them.
-    unsafe { hairbench_companion(record, rest.as_ptr(), rest.len(), drape.as_ptr(), drape.len(), seat, kind) }
+    unsafe { exported::hairbench_companion(record, rest.as_ptr(), rest.len(), drape.as_ptr(), drape.len(), seat, kind) }
 }
 
 /// A pick as the library takes it: 0 for none, then vertex and goal.
@@ -170,7 +129,7 @@ pub(crate) fn step_static(record: Record, lent: Lent, seat: usize, pick: Option<
     let (flag, vertex, [x, y, z]) = flat(pick);
     // Sound: pointer and length of each slice; drape and work are exclusive references, rest and pins are only read.
     unsafe {
-        hairbench_step_static(
+        exported::hairbench_step_static(
             record,
             rest.as_ptr(),
             rest.len(),
@@ -195,7 +154,7 @@ pub(crate) fn step_dynamic(record: Record, lent: Lent, seat: usize, pick: Option
     let (flag, vertex, [x, y, z]) = flat(pick);
     // Sound: as for the static step.
     unsafe {
-        hairbench_step_dynamic(
+        exported::hairbench_step_dynamic(
             record,
             rest.as_ptr(),
             rest.len(),
@@ -222,7 +181,7 @@ mod tests {
 
     #[test]
     fn the_layout_is_that_of_the_header() {
-        assert_eq!(std::mem::size_of::<Settings>(), 40);
+        assert_eq!(std::mem::size_of::<exported::Settings>(), 40);
         assert_eq!(std::mem::size_of::<Record>(), 6 * 8 + 6 * 40);
         assert_eq!(std::mem::size_of::<Changed>(), 6 * 8 + 6 * 40 + 8);
         assert_eq!(std::mem::size_of::<Report>(), 32);
@@ -233,7 +192,7 @@ mod tests {
     fn the_lengths_are_those_of_the_header() {
         let header = include_str!("../include/hairbench.h");
         for (name, length) in [
-            ("SEATS", SEATS),
+            ("SEATS", crate::SEATS),
             ("VERTICES", crate::VERTICES),
             ("REST", REST),
             ("DRAPE", DRAPE),

@@ -1,7 +1,6 @@
 //! What a call on the bench is given and what a step answers.
 
 /// A strand's stiffnesses, and the ratio below which a solve ends. None may be below 0.
-#[repr(C)]
 #[derive(Clone, Copy, Debug, Default, PartialEq)]
 pub struct Settings {
     /// The stiffness against stretch.
@@ -21,7 +20,8 @@ pub struct Strand<'a> {
     pub settings: Settings,
     /// Three numbers for each vertex.
     pub positions: &'a [f64],
-    /// Three numbers for each vertex: a unit vector across the edge that begins there.
+    /// Three numbers for each vertex: a unit vector across the edge that begins there. Those of the last vertex turn
+    /// nothing.
     pub frames: &'a [f64],
 }
 

@@ -39,7 +39,7 @@ pub fn rod(record: &Record, areas: &Stepped, seat: usize) -> Rod {
         ddw: Matrix::new(),
         conv_ratio: settings.conv_ratio,
         stiff_length: settings.stiff_length,
-        stiff_bendtwist: settings.stiff_bendtwist,
+        stiff_bendtwist: settings.stiff_bendtwist(),
     };
     rod.allocate_memory_for_linear_system();
     rod

@@ -3,11 +3,13 @@
 
 mod bench;
 mod call;
+#[path = "../../../../host/include/hairbench.rs"]
+pub mod exported;
 mod record;
 
 pub use bench::{Bench, Poke, SPARE};
 pub use call::{perform, Answer, Call, Lengths, Request, Shown};
-pub use record::{Record, Settings};
+pub use exported::{Record, Settings};
 
 /// Numbers or bytes of the lent areas.
 pub const REST: usize = 1152;

@@ -1,34 +1,27 @@
-//! The record of the six seats, laid out as in C.
+//! What is asked of the record and of settings beside their layout.
 
-use crate::same_all;
-
-/// What travels together with a strand.
-#[repr(C)]
-#[derive(Clone, Copy, Debug, Default)]
-pub struct Settings {
-    pub stiff_length: f64,
-    pub stiff_bendtwist: [f64; 3],
-    pub conv_ratio: f64,
-}
-
-/// Of each seat the number of vertices, 0 where it is empty, and the settings.
-#[repr(C)]
-#[derive(Clone, Copy, Debug, Default)]
-pub struct Record {
-    pub counts: [usize; 6],
-    pub settings: [Settings; 6],
-}
+use crate::{same_all, Record, Settings};
 
 impl Settings {
     pub fn numbers(&self) -> [f64; 5] {
-        let [b0, b1, b2] = self.stiff_bendtwist;
+        let [b0, b1, b2] = self.stiff_bendtwist();
         [self.stiff_length, b0, b1, b2, self.conv_ratio]
+    }
+
+    pub fn stiff_bendtwist(&self) -> [f64; 3] {
+        [
+            self.stiff_bendtwist0,
+            self.stiff_bendtwist1,
+            self.stiff_bendtwist2,
+        ]
     }
 
     pub fn from_numbers([stiff_length, b0, b1, b2, conv_ratio]: [f64; 5]) -> Settings {
         Settings {
             stiff_length,
-            stiff_bendtwist: [b0, b1, b2],
+            stiff_bendtwist0: b0,
+            stiff_bendtwist1: b1,
+            stiff_bendtwist2: b2,
             conv_ratio,
         }
     }

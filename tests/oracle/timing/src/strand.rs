@@ -72,7 +72,9 @@ fn settings(rng: &mut Rng) -> Settings {
     let mut stiffness = || sized(rng, -0.5, 0.5);
     Settings {
         stiff_length: stiffness(),
-        stiff_bendtwist: [stiffness(), stiffness(), stiffness()],
+        stiff_bendtwist0: stiffness(),
+        stiff_bendtwist1: stiffness(),
+        stiff_bendtwist2: stiffness(),
         conv_ratio: sized(rng, -6.0, -4.0),
     }
 }

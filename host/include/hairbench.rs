@@ -1,14 +1,37 @@
-//! What crate bench_c exports, as host/include/hairbench.h declares it.
+//! The six-seat hair bench for programs in Rust: what libbench_c.a exports. hairbench.h says what each call does, and
+//! what it asks of its caller. A crate takes this file in as a module, by `#[path]`, and links the library.
 
-use machine::{Record, Settings};
-
+/// A strand's settings: the stiffness against stretch, the three against bend and twist, and the ratio below which
+/// a solve ends.
 #[repr(C)]
+#[derive(Clone, Copy, Debug, Default, PartialEq)]
+pub struct Settings {
+    pub stiff_length: f64,
+    pub stiff_bendtwist0: f64,
+    pub stiff_bendtwist1: f64,
+    pub stiff_bendtwist2: f64,
+    pub conv_ratio: f64,
+}
+
+/// Of each seat the number of its strand's vertices, 0 where it is empty, and the settings.
+#[repr(C)]
+#[derive(Clone, Copy, Debug, Default, PartialEq)]
+pub struct Record {
+    pub counts: [usize; 6],
+    pub settings: [Settings; 6],
+}
+
+/// The record after a load or an unload, and the number that the call is refused with, 0 for none.
+#[repr(C)]
+#[derive(Clone, Copy, Debug, PartialEq)]
 pub struct Changed {
     pub seats: Record,
     pub refusal: u8,
 }
 
+/// A step's answer: the number that it is refused with, 0 for none, and its numbers.
 #[repr(C)]
+#[derive(Clone, Copy, Debug, PartialEq)]
 pub struct Report {
     pub number: u8,
     pub energy: f64,
@@ -16,7 +39,9 @@ pub struct Report {
     pub ratio: f64,
 }
 
+/// Where the numbers of a look stand in the area that its kind chooses, and how many they are.
 #[repr(C)]
+#[derive(Clone, Copy, Debug, PartialEq)]
 pub struct Place {
     pub at: usize,
     pub count: usize,
