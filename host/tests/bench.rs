@@ -1,4 +1,5 @@
-//! The wrapper on document 01's examples: energy, count, ratio, refusals, and that a refused call leaves everything.
+//! The wrapper on document 01's examples and a bent strand: energy, count, ratio, refusals, and that a refused call leaves
+//! everything.
 
 use hairbench::{Bench, Component, Kind, Pick, Refusal, Settings, StepReport, Strand, SEATS};
 
@@ -68,6 +69,25 @@ fn p10_a_pinned_vertex_stays() {
     let step = bench.step_static(0, pull([0.5, 0.0, 0.0]));
     assert_eq!(step, Ok(StepReport { energy: 0.0, count: 0, ratio: 0.0 }));
     assert_eq!(bench.look(0, Kind::DrapePositions), Ok(&POSITIONS[..]));
+}
+
+/// Energy, count and ratio as the unchanged Rust has them (tests/oracle/bench/tests/examples.rs), bit for bit.
+#[test]
+fn a_bent_strand() {
+    let settings = Settings { stiff_length: 2.0, stiff_bendtwist: [0.5, 0.75, 1.25], conv_ratio: 1.0 / 1024.0 };
+    let positions = [0.0, 0.0, 0.0, 1.0, 0.0, 0.0, 1.0, 1.0, 0.0];
+    let frames = [0.0, 0.0, 1.0].repeat(3);
+    let mut bench = Bench::new();
+    bench.load(3, &Strand { n: 3, settings, positions: &positions, frames: &frames }).expect("a good strand");
+    let pick = Some(Pick { vertex: 2, goal: [1.25, 1.5, 0.5] });
+    let told = |step: Result<StepReport, Refusal>| {
+        let StepReport { energy, count, ratio } = step.expect("an accepted step");
+        (energy.to_bits(), count, ratio.to_bits())
+    };
+    assert_eq!(told(bench.step_static(3, pick)), (0, 8, 0x3D2DA996479375EC));
+    assert_eq!(told(bench.step_dynamic(3, pick, 0.25)), (0x3F61FF983EB8BEFC, 9, 0x3EF3871252FC7AA6));
+    assert_eq!(told(bench.step_static(3, None)), (0x3F5B9FB7B6F3C05E, 5, 0x3F107DEBCEE40DDC));
+    assert_eq!(bench.settings(3), Some(settings));
 }
 
 #[test]

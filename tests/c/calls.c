@@ -1,4 +1,5 @@
-/* Document 01's examples of the bench through host/include/hairbench.h and the library. */
+/* Document 01's examples of the bench, a bent strand, and both forms of load and unload, through
+ * host/include/hairbench.h and the library. */
 #include "hairbench.h"
 
 #include <math.h>
@@ -121,13 +122,36 @@ static void dynamic_step_and_unload(void)
     expect(emptied(1) == HAIRBENCH_ACCEPTED && bench.record.counts[1] == 0, "unload");
 }
 
+static int told(hairbench_report r, double energy, size_t count, double ratio)
+{
+    return r.number == HAIRBENCH_ACCEPTED && r.energy == energy && r.count == count && r.ratio == ratio;
+}
+
+/* Energy, count and ratio as the unchanged Rust has them (tests/oracle/bench/tests/examples.rs). */
+static void bent_strand(void)
+{
+    static const double bent[9] = {0, 0, 0, 1, 0, 0, 1, 1, 0};
+    static const double across[9] = {0, 0, 1, 0, 0, 1, 0, 0, 1};
+    static const hairbench_settings stiff = {2, 0.5, 0.75, 1.25, 1.0 / 1024};
+    seated(2, 2);
+    expect(hairbench_load(&bench.record, bench.rest, HAIRBENCH_REST, bench.drape, HAIRBENCH_DRAPE, bench.pins,
+                          HAIRBENCH_PINS, 3, 3, stiff, bent, 9, across, 9) == HAIRBENCH_ACCEPTED, "a bent strand");
+    hairbench_report r = hairbench_step_static(bench.record, bench.rest, HAIRBENCH_REST, bench.drape, HAIRBENCH_DRAPE,
+                                               bench.pins, HAIRBENCH_PINS, bench.work, HAIRBENCH_WORK, 3, 1, 2, 1.25,
+                                               1.5, 0.5);
+    expect(told(r, 0, 8, 0x1.da996479375ecp-45), "its static step");
+    r = hairbench_step_dynamic(bench.record, bench.rest, HAIRBENCH_REST, bench.drape, HAIRBENCH_DRAPE, bench.pins,
+                               HAIRBENCH_PINS, bench.work, HAIRBENCH_WORK, 3, 1, 2, 1.25, 1.5, 0.5, 0.25);
+    expect(told(r, 0x1.1ff983eb8befcp-9, 9, 0x1.3871252fc7aa6p-16), "its dynamic step");
+}
+
 static int same(const hairbench_record *a, const hairbench_record *b)
 {
     return memcmp(a, b, sizeof *a) == 0;
 }
 
-/* Load and unload, by value and where the record stands. Seat 4 is empty, so that no call looks at its settings, of
- * which one is a NaN with bits of its own. */
+/* Of a bench with the edge on seat 2. Seat 4 is empty, so that no call looks at its settings, of which one is a NaN
+ * with bits of its own. */
 static hairbench_record odd_record(void)
 {
     static const uint64_t odd = 0x7ff4000000000123;
@@ -164,6 +188,7 @@ int main(void)
     static_steps();
     refusals();
     dynamic_step_and_unload();
+    bent_strand();
     declined_records();
     changed_records();
     expect(hairbench_sqrt(2) == 0x1.6a09e667f3bcdp+0 && isnan(hairbench_sqrt(-1)), "roots");

@@ -119,3 +119,35 @@ fn infinite_product() {
     assert_eq!((numbers.refusal, numbers.count), (0, 1000));
     assert_eq!(numbers.ratio, 1.0);
 }
+
+/// Steps that tell three numbers apart: energy, count and ratio, as bits. host/tests/bench.rs and tests/c/calls.c have
+/// the same strand and steps.
+#[test]
+fn a_bent_strand() {
+    let load = Request::Load {
+        n: 3,
+        settings: Settings::from_numbers([2.0, 0.5, 0.75, 1.25, 1.0 / 1024.0]),
+        positions: vec![0.0, 0.0, 0.0, 1.0, 0.0, 0.0, 1.0, 1.0, 0.0],
+        frames: [0.0, 0.0, 1.0].repeat(3),
+    };
+    let pick = Some((2, [1.25, 1.5, 0.5]));
+    let steps = [
+        Request::Static(pick),
+        Request::Dynamic(pick, 0.25),
+        Request::Static(None),
+    ];
+    let expected = [
+        (0, 8, 0x3D2DA996479375EC),
+        (0x3F61FF983EB8BEFC, 9, 0x3EF3871252FC7AA6),
+        (0x3F5B9FB7B6F3C05E, 5, 0x3F107DEBCEE40DDC),
+    ];
+    let mut bench = Bench::new();
+    assert_eq!(ask(&mut bench, 3, load).refusal(), Some(0));
+    let told = steps.map(|request| {
+        let numbers = step(&mut bench, 3, request);
+        let [energy, ratio] = [numbers.energy, numbers.ratio].map(f64::to_bits);
+        assert_eq!(numbers.refusal, 0);
+        (energy, numbers.count, ratio)
+    });
+    assert_eq!(told, expected);
+}
