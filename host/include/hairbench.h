@@ -1,8 +1,25 @@
 /* The six-seat hair bench: crate bench_c, built by `rt staticlib bench_c` as libbench_c.a.
  *
- * The bench owns no memory. The caller keeps the record and lends four areas to each call, as a pointer and a
- * length. An area may have any length and hold any bits; a wrong length is refused. Pointers are not null, and areas that are
- * lent together do not overlap. No call keeps a pointer, allocates, or calls back.
+ * The bench owns no memory. The caller keeps the record and lends areas to each call, as a pointer and a length:
+ *
+ *     load, unload      rest, drape and pins, of which the seat's parts are written
+ *     pin               pins, of which one byte is written
+ *     look, companion   rest and drape, which are read
+ *     both steps        rest and pins, which are read; drape, of which the seat's part is written; work, which may
+ *                       hold anything before and after
+ *
+ * An area may have any length and hold any bits; a wrong length is refused. No call keeps a pointer, allocates, or
+ * calls back. What the library cannot test it asks of its caller, of areas, of the lists of a load and of the record
+ * where it is a pointer:
+ *
+ * - A pointer is not null, is aligned for its type, and is good for its length.
+ * - What a call writes overlaps nothing else that it is given: no other area, no list, not the record. What it only
+ *   reads may overlap what it only reads.
+ * - Floating point is as a program starts with it: numbers are rounded to nearest, subnormal numbers are kept (neither
+ *   flush to zero nor denormals-are-zero is set), and no exception traps. Otherwise the bits are others. A program that
+ *   is linked with -ffast-math may start otherwise.
+ *
+ * Structs go by value, in and out, as the System V ABI of x86-64 has it.
  *
  * Link with -lm: the library takes fmod from there, and memcpy and memset from the C library. */
 #ifndef HAIRBENCH_H
@@ -88,7 +105,10 @@ typedef struct {
     size_t count;
 } hairbench_place;
 
-/* Lays a strand of n vertices on an empty seat: three numbers of positions and of frames for each vertex. */
+/* Lays a strand of n vertices on an empty seat: three numbers of positions and three of frames for each vertex. A
+ * vertex's frame is that of the edge which begins there, told by its x axis, a unit vector across the edge; other
+ * finite numbers are laid too, and a step computes with them. The last vertex begins no edge: its three numbers are
+ * kept, and turn nothing. */
 hairbench_changed hairbench_load_value(hairbench_record record, double *rest, size_t rest_length, double *drape,
                                        size_t drape_length, uint8_t *pins, size_t pins_length, size_t seat,
                                        size_t n, hairbench_settings settings, const double *positions,
