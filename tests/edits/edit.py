@@ -1,12 +1,8 @@
-"""An edit: a file of replacements that makes a crate wrong, in the form that `rt must-fail` reads.
+"""An edit: a file of replacements in a crate, in the form that `rt must-fail` reads.
 
 A line `file: PATH`, below src/ or specs/, holds for the pairs of lines `old: TEXT`, `new: TEXT` after it; each old text stands in its file
 exactly once."""
-import os, re
-
-FUNCTION = re.compile(r'^(?:pub(?:\([^)]*\))? )?(?:extern "C" )?fn (\w+)', re.M)
-BODY = re.compile(r'^\{$|^\S.*\{$', re.M)
-END = re.compile(r'^\}$', re.M)
+import os
 
 
 def read(path):
@@ -37,51 +33,28 @@ def replacements(edit):
 
 
 def applied(crate, edits):
-    """Changes the files of the crate's folder; answers what they held before, or None, with nothing changed, where an edit does not fit."""
-    before = {}
-    for path, old, new in [r for e in edits for r in replacements(e)]:
+    """Changes the files of the crate's folder; answers whether every old text stood there once, and stops where one did not."""
+    made = [r for e in edits for r in replacements(e)]
+    for path, old, new in made:
         fits = path.startswith(('src/', 'specs/')) and '..' not in path and old
         path = os.path.join(crate, path)
         text = read(path) if fits and os.path.isfile(path) else ''
         if not fits or text.count(old) != 1:
-            restored(before)
-            return None
-        before.setdefault(path, text)
+            return False
         write(path, text.replace(old, new))
-    return before or None
+    return bool(made)
 
 
-def restored(before):
-    for path, text in before.items():
-        write(path, text)
+def of_definitions(edit):
+    return all(path.startswith('specs/') for path, _, _ in replacements(edit))
 
 
-def enclosing(text, at, end):
-    """The name of the function whose body the text from `at` to `end` stands in, or None. Goes by the layout that `rt fmt` gives."""
-    heads = [m for m in FUNCTION.finditer(text) if m.start() <= at]
-    if not heads:
-        return None
-    body = BODY.search(text, heads[-1].start())
-    close = END.search(text, heads[-1].start())
-    return heads[-1][1] if body and close and body.end() <= at and end <= close.start() else None
-
-
-def function_of(crate, edit):
-    """The path below src/ of the one function whose body is all that an edit changes, as `rod3_darboux/bend/block_sum`, or None."""
-    found = set()
+def function_of(crate, edit, functions):
+    """(function, whether all of it is in the body) where an edit changes one function of the crate and nothing else, or None."""
+    found, in_body = set(), True
     for path, old, _ in replacements(edit):
-        text = read(os.path.join(crate, path)) if path.startswith('src/') else ''
-        at = text.find(old)
-        function = enclosing(text, at, at + len(old)) if at >= 0 else None
-        if not function:
-            return None
-        module = re.sub(r'(^|/)(lib|main|mod)$', '', path[4:].removesuffix('.rt'))
-        found.add(os.path.join(module, function))
-    return found.pop() if len(found) == 1 else None
-
-
-def proof_of(crate, function):
-    """The function's own proof file, from the crate's folder on, or None; that of a recursion has a + before its name."""
-    module, name = os.path.split(function)
-    files = [os.path.join('proofs', module, n, 'Proof.antt') for n in (name, '+' + name)]
-    return next((f for f in files if os.path.isfile(os.path.join(crate, f))), None)
+        at = read(os.path.join(crate, path)).find(old) if os.path.isfile(os.path.join(crate, path)) else -1
+        f = next((f for f in functions.values() if path == 'src/' + f.file and f.start <= at and at + len(old) <= f.end), None)
+        found.add(f)
+        in_body = in_body and f is not None and f.body <= at
+    return (found.pop(), in_body) if len(found) == 1 and None not in found else None

@@ -6,14 +6,15 @@ just proved, and is copied from there. This leans on three things that the kit d
   - `rt dev` looks for them in a folder of target/inc/NAME whose name tells the build of rattle, the same for every crate;
   - rattle writes a file anew where it stores a module, so that copies can share files; only `rattle-last-used` is written where it stands.
 `take` stops the run where `rt dev` then finds a single module to check, and `untouched` where a shared file was written to."""
-import os, re, shutil, subprocess, threading
+import os, re, shutil, subprocess, tempfile, threading
 
-import rooms
+import functions, rooms, verdict
 from edit import read, write
 
 HERE = 'see the first lines of tests/edits/stored.py'
 SAMPLES = re.compile(r'^(?:pub )?mod (Samples\w*|Examples|Theorems)\n', re.M)
 WORKERS = int(os.environ.get('RT_JOBS') or min(2, len(os.sched_getaffinity(0))))
+WHOLE, PART = 'whole', 'part'
 CHECKS = threading.BoundedSemaphore(WORKERS)
 
 
@@ -91,7 +92,7 @@ class Stored:
 
     def proved(self, folder, name):
         said = run_dev(folder, name)
-        if not re.search('^logic=proved ', said, re.M):
+        if not verdict.proved(said):
             raise RuntimeError(f'{name} is not proved as it stands\n{said[-3000:]}')
         return said
 
@@ -100,21 +101,36 @@ class Stored:
             if files(self.modules(self.folder, name)) != found:
                 raise RuntimeError(f'{name}: a check wrote to a file that copies share: {HERE}')
 
-    def room(self, folder, name, whole):
-        """Makes a folder in which edits of the crate can be tried, whole or without what is only computed; the first such one is shown to be proved too."""
+    def room(self, name):
+        """A new folder in which edits of the crate can be tried; the first is shown to be proved without what is only computed."""
+        folder = os.path.join(tempfile.mkdtemp(dir=self.top), 'room')
         rooms.copied_sources(self.folder, folder)
         for d in rooms.below(name, self.uses):
             for part in (f'target/rlib/{d}.rlib', f'target/stamp/{d}'):
                 shared(os.path.join(self.folder, part), os.path.join(folder, part))
         shared(self.modules(self.folder, name), self.modules(folder, name))
-        if not whole:
-            without_samples(os.path.join(folder, 'crates', name, 'proofs'))
-        if not whole and name not in self.shown:
+        if name not in self.shown:
             self.shown.add(name)
+            self.fresh(folder, name, PART)
             self.proved(folder, name)
+        return folder
 
-    def fresh(self, folder, name):
-        """Has a room share all modules of the crate as it stands again, and keep nothing of the edit before."""
+    def lawful(self, name):
+        """Whether the crate's definitions and laws are proved where no function but methods stands beside them; its checks have all functions where not."""
+        folder = self.room(name)
+        self.fresh(folder, name, functions.reached(functions.functions_of(os.path.join(self.folder, 'crates', name)), []))
+        return verdict.proved(run_dev(folder, name))
+
+    def fresh(self, folder, name, extent):
+        """Has a room hold the crate as it stands, all of it, or all but the samples, or of the functions only those of a set; and share its
+        modules. Nothing of the edit before is kept."""
+        own = os.path.join(folder, 'crates', name)
+        shutil.rmtree(own)
+        shutil.copytree(os.path.join(self.folder, 'crates', name), own)
+        if extent != WHOLE:
+            without_samples(os.path.join(own, 'proofs'))
+        if extent not in (WHOLE, PART):
+            functions.without_others(own, extent)
         base, room = self.modules(self.folder, name), self.modules(folder, name)
         found = files(room)
         for path in found.keys() - self.files[name].keys():
