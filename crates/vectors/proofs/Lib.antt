@@ -3,6 +3,7 @@ pub mod Finiteness
 pub mod FloatOrder
 pub mod OwnFraction
 pub mod Zeros
+pub mod Signs
 pub mod WholeUnits
 pub mod SquareUnder
 pub mod OneTimes

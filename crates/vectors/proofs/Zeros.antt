@@ -70,7 +70,8 @@ plus-turned (fin s m e) (inf t) = refl
 plus-turned (fin s m e) (fin t n d) = rw (mul-comm (down e) (down d)) (sum-turned s t (m * up e * down d) (n * up d * down e) (down d * down e))
 
 -- ---- what +0 added leaves as it is
-unfoldable sign : Float → Bool
+-- whether the sign is minus; NaN, which has none, counts as plus
+unfoldable pub sign : Float → Bool
 sign nan = false
 sign (inf s) = s
 sign (fin s m e) = s

@@ -1,5 +1,6 @@
 -- What the crate's contracts cite, in the order of document 01.
 pub mod Number
+pub mod Signs
 pub mod Vec3
 pub mod Mat3
 pub mod Vec4

@@ -1,6 +1,6 @@
--- The four operations of binary64, each rounded to nearest, and the two numbers that the formulas name.
+-- The four operations of binary64, each rounded to nearest, and the numbers that formulas and claims name.
 use mathlib.Core.Path.{_≡_, refl}
-use mathlib.Core.Bool.{false}
+use mathlib.Core.Bool.{true, false}
 use lib.Dec.{T}
 use lib.IntN.{pos}
 use lib.Ieee.{Float, fin, binary64, ofBits, fits, add, sub, mul, div}
@@ -24,6 +24,9 @@ a ⊘ b = div binary64 a b
 abbrev pub plusZero : Float
 plusZero = ofBits binary64 0
 
+abbrev pub minusZero : Float
+minusZero = ofBits binary64 0x8000_0000_0000_0000
+
 abbrev pub plusOne : Float
 plusOne = ofBits binary64 0x3ff0_0000_0000_0000
 
@@ -31,6 +34,10 @@ plusOne = ofBits binary64 0x3ff0_0000_0000_0000
 pub plusZero-is : plusZero ≡ fin false 0 (pos 0)
 unfolding ofBits
 plusZero-is = refl
+
+pub minusZero-is : minusZero ≡ fin true 0 (pos 0)
+unfolding ofBits
+minusZero-is = refl
 
 pub plusOne-is : plusOne ≡ fin false 1 (pos 0)
 unfolding ofBits

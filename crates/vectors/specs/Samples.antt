@@ -4,6 +4,7 @@ use mathlib.Core.List.{List, [], _∷_}
 use Prim.Native.Nat.{ℕ}
 use lib.Dec.{T, eqb}
 use lib.Ieee.{Float, binary64, ofBits, toBits}
+use Rattle.vectors.specs.Number.{minusZero}
 use Rattle.vectors.specs.Vec3.{vec3, vec3Add, vec3Sub, vec3Scale, vec3AddThree, vec3Dot, vec3Norm, vec3Normalize, vec3Cross, vec3Orthogonalize}
 use Rattle.vectors.specs.Mat3.{mat3, mat3ScaledOuterProduct, mat3Projection, vec3TimesMat3}
 use Rattle.vectors.specs.Vec4.{vec4, vec4Dot}
@@ -91,7 +92,7 @@ wb = vec4 (ofBits binary64 0xBFD9_9999_9999_999A) (ofBits binary64 0x3FEC_CCCC_C
 
 -- These show the leading +0: without it a sum of -0 would be -0.
 unfoldable pub minusZeros : Vec4
-minusZeros = vec4 (ofBits binary64 0x8000_0000_0000_0000) (ofBits binary64 0x8000_0000_0000_0000) (ofBits binary64 0x8000_0000_0000_0000) (ofBits binary64 0x8000_0000_0000_0000)
+minusZeros = vec4 minusZero minusZero minusZero minusZero
 
 unfoldable pub ones : Vec4
 ones = vec4 (ofBits binary64 0x3FF0_0000_0000_0000) (ofBits binary64 0x3FF0_0000_0000_0000) (ofBits binary64 0x3FF0_0000_0000_0000) (ofBits binary64 0x3FF0_0000_0000_0000)

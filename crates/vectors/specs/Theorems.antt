@@ -1,5 +1,6 @@
 -- What is proved of vectors, blocks and angles beyond the contracts: each theorem that the documents claim. proofs/Theorems.antt has a proof of every one.
 use Rattle.vectors.specs.Number.{OneTimes}
+use Rattle.vectors.specs.Signs.{SignLaws}
 use Rattle.vectors.specs.Finite.{FiniteTests}
 use Rattle.vectors.specs.Fits.{ResultsFit}
 use Rattle.vectors.specs.Edge.{NormReversed}
@@ -11,6 +12,8 @@ pub record Theorems : Type 0 where
   pub resultsFit : ResultsFit
   -- what a test for finite numbers says
   pub finiteTests : FiniteTests
+  -- the sign of products and sums, and the side of 0 on which they lie
+  pub signLaws : SignLaws
   -- 1 times a number is that number
   pub oneTimes : OneTimes
   -- an edge is as long from either end
