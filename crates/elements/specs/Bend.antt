@@ -2,6 +2,7 @@
 use mathlib.Core.Path.{_≡_}
 use lib.Ieee.{Float}
 use Rattle.vectors.specs.Number.{_⊕_, _⊗_, plusZero}
+use Rattle.vectors.specs.Signs.{plus, Side}
 use Rattle.vectors.specs.Vec3.{vec3, vec3Sub, vec3Scale, vec3AddThree, vec3Dot}
 use Rattle.vectors.specs.Mat3.{mat3AddThree, mat3ScaledOuterProduct}
 use Rattle.vectors.specs.Vec4.{vec4, vec4FromVec3}
@@ -126,3 +127,7 @@ wdwdwdwDarbouxRodHairApproxHessian rod k darboux = approxHessianOf (cdcRodDarbou
 -- The energy that the element answers is the one defined alone.
 abbrev pub BendAnswersEnergy : Type 0
 BendAnswersEnergy = (rod : Rod) (k darboux : Vec3) → wdwdwdwDarbouxRodHairApproxHessian rod k darboux .w ≡ bendEnergy k (vec3Sub (cdcRodDarboux rod .c) darboux)
+
+-- Where none of the stiffnesses is below 0, neither is the energy; NaN counts as not below 0 in both.
+abbrev pub BendNotBelow : Type 0
+BendNotBelow = (k r : Vec3) → Side plus (k .x) → Side plus (k .y) → Side plus (k .z) → Side plus (bendEnergy k r)

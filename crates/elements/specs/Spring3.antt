@@ -2,6 +2,7 @@
 use mathlib.Core.Path.{_≡_}
 use lib.Ieee.{Float, neg}
 use Rattle.vectors.specs.Number.{_⊖_, _⊗_, _⊘_, plusOne}
+use Rattle.vectors.specs.Signs.{plus, Side}
 use Rattle.vectors.specs.Vec3.{vec3Sub, vec3Scale, vec3Norm}
 use Rattle.vectors.specs.Mat3.{mat3Add, mat3Scale, mat3Identity, mat3ScaledOuterProduct}
 use Rattle.vectors.specs.declared.vec3.Vec3.{Vec3}
@@ -45,3 +46,7 @@ StretchOfOwnLength = (stiffness : Float) (p0 p1 : Vec3) (l ini : Float) → l �
 -- The energy that the element answers is the one defined alone.
 abbrev pub StretchAnswersEnergy : Type 0
 StretchAnswersEnergy = (stiffness : Float) (p0 p1 : Vec3) (ini : Float) → wdwddwSquaredLengthDifference stiffness p0 p1 ini .w ≡ stretchEnergy stiffness p0 p1 ini
+
+-- Where the stiffness is not below 0, neither is the energy; NaN counts as not below 0 in both.
+abbrev pub StretchNotBelow : Type 0
+StretchNotBelow = (stiffness : Float) (p0 p1 : Vec3) (ini : Float) → Side plus stiffness → Side plus (stretchEnergy stiffness p0 p1 ini)

@@ -1,7 +1,7 @@
 -- What is proved of the elements beyond the contracts: each theorem that the documents claim. proofs/Theorems.antt has a proof of every one.
-use Rattle.elements.specs.Spring3.{StretchAnswersEnergy, StretchOfOwnLength}
+use Rattle.elements.specs.Spring3.{StretchAnswersEnergy, StretchOfOwnLength, StretchNotBelow}
 use Rattle.elements.specs.Darboux.{FrameOfOwnLength}
-use Rattle.elements.specs.Bend.{BendAnswersEnergy}
+use Rattle.elements.specs.Bend.{BendAnswersEnergy, BendNotBelow}
 use Rattle.elements.specs.SamplesSpring3.{StretchesHold}
 use Rattle.elements.specs.SamplesDarboux.{FramesHold, DarbouxVectorsHold, TurnsHold}
 use Rattle.elements.specs.SamplesBend.{BendsHold}
@@ -11,6 +11,9 @@ pub record Theorems : Type 0 where
   pub stretchAnswersEnergy : StretchAnswersEnergy
   -- bend and twist answer `bendEnergy`
   pub bendAnswersEnergy : BendAnswersEnergy
+  -- where no stiffness is below 0, no energy is
+  pub stretchNotBelow : StretchNotBelow
+  pub bendNotBelow : BendNotBelow
   -- by an edge's own length the stretch is the published one
   pub stretchOfOwnLength : StretchOfOwnLength
   -- and the frame is the edge's

@@ -12,6 +12,7 @@ pub mod Every
 pub mod RowsPut
 pub mod BlockLaws
 pub mod SystemLaws
+pub mod EnergySign
 pub mod Cleared
 pub mod Diagonals
 pub mod Assembly

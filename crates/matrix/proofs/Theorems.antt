@@ -4,6 +4,7 @@ use Rattle.matrix.proofs.Parts.{getD-inside, getD-outside}
 use Rattle.matrix.proofs.AreaMap.{consecutive}
 use Rattle.matrix.proofs.RowPlaces.{placed, all-blocks}
 use Rattle.matrix.proofs.Columns.{place-injective}
+use Rattle.matrix.proofs.EnergySign.{energy-has-plus}
 use Rattle.matrix.proofs.FromFirst.{product-added, begins, row-begun}
 use Rattle.matrix.proofs.Iterations.{small-start, first-below, one-answer}
 use Rattle.matrix.proofs.RootBound.{zero-bounds, above-square-bounds, infinity-bounds, in-place}
@@ -17,6 +18,7 @@ theorems = record {
   rowStartPlaced = placed;
   allBlocks = all-blocks;
   onePair = λ n p q i j. place-injective;
+  energyHasPlus = energy-has-plus;
   addedFromFirst = λ a v s r. product-added a v;
   begunFromZero = λ old s r. begins old;
   endsTheSame = row-begun;

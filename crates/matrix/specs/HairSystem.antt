@@ -6,6 +6,7 @@ use lib.Dec.{eqb}
 use lib.ListN.{getD}
 use lib.Ieee.{Float}
 use Rattle.vectors.specs.Number.{_⊕_, plusZero}
+use Rattle.vectors.specs.Signs.{plus, Sign, Side}
 use Rattle.vectors.specs.Vec4.{vec4, vec4Add, vec4FromVec3}
 use Rattle.vectors.specs.Mat4.{mat4, mat4Add, mat4FromMat3}
 use Rattle.vectors.specs.Edge.{edgeLength}
@@ -178,3 +179,7 @@ module _ (n : ℕ) (rest staged : Shape) (stretch : Float) (bend : Vec3) where
 
   unfoldable pub hairSystem : System
   hairSystem = withDiagonal n plusZero (assembled n hairElements)
+
+-- Where no stiffness is below 0, the energy has the sign plus, or is NaN: the sum begins with +0.
+abbrev pub EnergyHasPlus : Type 0
+EnergyHasPlus = (n : ℕ) (rest staged : Shape) (stretch : Float) (bend : Vec3) → Side plus stretch → Side plus (bend .x) → Side plus (bend .y) → Side plus (bend .z) → Sign plus (hairEnergy n rest staged stretch bend)

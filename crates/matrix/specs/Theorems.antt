@@ -7,6 +7,7 @@ use Rattle.vectors.specs.declared.mat4.Mat4.{Mat4}
 use Rattle.matrix.specs.Parts.{StoredInside, OldOutside}
 use Rattle.matrix.specs.Layout.{RowStartPlaced, AllBlocks, OnePair}
 use Rattle.matrix.specs.Area.{Consecutive}
+use Rattle.matrix.specs.HairSystem.{EnergyHasPlus}
 use Rattle.matrix.specs.SparseSquare.{AddedFromFirst, BegunFromZero, EndsTheSame}
 use Rattle.matrix.specs.RootBound.{ZeroBounds, AboveSquareBounds, InfinityBounds, InfinityInPlace}
 use Rattle.matrix.specs.Iterations.{SmallStart, SolveIsFirstBelow, OneAnswer}
@@ -32,6 +33,9 @@ pub record Theorems : Type 0 where
   pub allBlocks : AllBlocks
   -- a place belongs to one pair of row and column
   pub onePair : OnePair
+  -- ---- the energy
+  -- where no stiffness is below 0, it has the sign plus, or is NaN
+  pub energyHasPlus : EnergyHasPlus
   -- ---- the product may leave out the +0 that its sums begin with, and alpha 1
   -- each block's product may be summed from its first term on, and added as it is
   pub addedFromFirst : AddedFromFirst
