@@ -79,8 +79,8 @@ static-keeps t pick w = static-part t w _ (counted-moved t w (solutionOf t pick 
 
 pub step-accepts : StepAccepts
 unfolding updateOf begunWith shapeBy drapeAfter
-step-accepts t pick still w h = accepts t w pick still h (static-stays t w (solutionOf t pick still)) (kept-copy t w _ (static-keeps t pick w))
+step-accepts t pick still w h = accepts t pick still h w (static-stays t w (solutionOf t pick still)) (kept-copy t w _ (static-keeps t pick w))
 step-accepts t pick (over dt) w h =
     let v = solutionOf t pick (over dt) in
     let s = dynamic-stays t w dt _ (counted-updated (t .count) (t .pins) (predictedShape dt (t .count) (t .pins) (t .drape)) v) in
-    accepts t w pick (over dt) h s (taken-copy t w dt v s)
+    accepts t pick (over dt) h w s (taken-copy t w dt v s)

@@ -22,10 +22,11 @@ use Rattle.bench.specs.Rows.{first, inTable}
 use Rattle.bench.specs.PinStory.{position}
 use Rattle.bench.specs.Step.{Time, beginRows, outcomeIsFinite, drapeIsFinite, finishRows, updateOf}
 use Rattle.bench.specs.Accepted.{Whole, StepLeaves}
+use Rattle.bench.proofs.EveryNumber.{every-getD}
 use Rattle.bench.proofs.RowLaws.{demandsOf, holds}
 use Rattle.bench.proofs.Components.{component, row-component, pinned-component}
 use Rattle.bench.proofs.StoredDrape.{Stays}
-use Rattle.bench.proofs.CopyFinite.{number-finite, CopyIsFinite, all-finite}
+use Rattle.bench.proofs.CopyFinite.{CopyIsFinite, all-finite}
 
 -- ---- numbers of what was tested
 system-energy : (e : Float) (s : System) → systemIsFinite e s ≡ true → isFinite e ≡ true
@@ -47,12 +48,12 @@ drape-part n d h (suc (suc zero)) b = and-right (vectorsFinite n d placePosition
 drape-part n d h (suc (suc (suc p))) b = absurd (omega arith)
 
 -- ---- of either kind
-module _ (t : Strand) (w : Whole t) (pick : Pick) (time : Time) (h : first (updateOf t pick time .rows) ≡ 0) where
+module _ (t : Strand) (pick : Pick) (time : Time) (h : first (updateOf t pick time .rows) ≡ 0) where
   in-table : every inTable (updateOf t pick time .rows) ≡ true
   unfolding updateOf beginRows finishRows every
   in-table = refl
 
-  energy-finite : isFinite (updateOf t pick time .energy) ≡ true
+  pub energy-finite : isFinite (updateOf t pick time .energy) ≡ true
   unfolding updateOf beginRows finishRows demandsOf
   energy-finite = system-energy _ _ (holds (updateOf t pick time .rows) in-table h 8 0)
 
@@ -64,14 +65,14 @@ module _ (t : Strand) (w : Whole t) (pick : Pick) (time : Time) (h : first (upda
   unfolding updateOf beginRows finishRows demandsOf
   drape-tested = holds (updateOf t pick time .rows) in-table h 11 0
 
-  module _ {new : ℕ → Vec3} (s : Stays t w new (updateOf t pick time .drape)) where
+  module _ (w : Whole t) {new : ℕ → Vec3} (s : Stays t w new (updateOf t pick time .drape)) where
     abbrev d : List Float
     d = updateOf t pick time .drape
 
     drape-finite : (p k : ℕ) → p < 3 → k < 3 * t .count → isFinite (getD d (vectorPart * p + k) nan) ≡ true
     drape-finite p k a b =
         let l = length-part d (vectorPart * p) (3 * t .count) (omega (arith, s .long, w .drape, w .count)) in
-        sym (ap isFinite (getD-part d (vectorPart * p) (3 * t .count) k nan b)) ∙ number-finite (part d (vectorPart * p) (3 * t .count)) (drape-part (t .count) d drape-tested p a) k (omega (arith, l))
+        sym (ap isFinite (getD-part d (vectorPart * p) (3 * t .count) k nan b)) ∙ every-getD isFinite nan (part d (vectorPart * p) (3 * t .count)) (drape-part (t .count) d drape-tested p a) k (omega (arith, l))
 
     pinned-stays : (i j : ℕ) → i < t .count → j < 3 → getD (t .pins) (4 * i + j) 0 ≢ 0 → position i j d ≡ position i j (t .drape)
     pinned-stays i j a b p = row-component d (3 * i) j b ∙ ap (component j) (s .positions i a) ∙ pinned-component (t .pins) (4 * i) (row3 (t .drape) (3 * i)) (new i) j b p ∙ sym (row-component (t .drape) (3 * i) j b)

@@ -17,7 +17,7 @@ use Rattle.matrix.specs.Rows.{row3}
 use Rattle.matrix.specs.System.{every}
 use Rattle.matrix.specs.HairSystem.{vec3At, Shape}
 use Rattle.matrix.proofs.Cases.{by-order, by-equality}
-use Rattle.matrix.proofs.Every.{every-at, every-all}
+use Rattle.matrix.proofs.Every.{every-all}
 use Rattle.matrix.proofs.Parts.{table-of, length-table, getD-table, getD-part, length-put}
 use Rattle.matrix.proofs.Shapes.{vec3-at}
 use Rattle.bench.specs.Areas.{vectorPart, placeVelocities, placeWorkingCopy}
@@ -25,13 +25,11 @@ use Rattle.bench.specs.Strand.{Strand}
 use Rattle.bench.specs.Update.{vec3UnlessPinned, movedAt, updateSolutionHair}
 use Rattle.bench.specs.Step.{predicted, predictedCopy, predictedShape, workingCopyIn, dynamicDrape}
 use Rattle.bench.specs.Accepted.{Whole}
+use Rattle.bench.proofs.EveryNumber.{every-getD}
 use Rattle.bench.proofs.Components.{component, row-component, pinned-component, free-component}
 use Rattle.bench.proofs.StoredDrape.{Stays, stored-row}
 
 -- ---- the numbers of a list
-pub number-finite : (l : List Float) → every isFinite l ≡ true → (k : ℕ) → k < length l → isFinite (getD l k nan) ≡ true
-number-finite l h k b = every-at isFinite (length l) (λ i. getD l i nan) (ap (every isFinite) (table-of nan l) ∙ h) k b
-
 numbers-finite : (l : List Float) → ((k : ℕ) → k < length l → isFinite (getD l k nan) ≡ true) → every isFinite l ≡ true
 numbers-finite l h = sym (ap (every isFinite) (table-of nan l)) ∙ every-all isFinite (length l) (λ i. getD l i nan) h
 
@@ -52,7 +50,7 @@ module _ (t : Strand) (w : Whole t) (d : List Float) (long : length d ≡ length
   vertex-finite p k a b = by-order p 3 (λ c. tested p k c b) (λ c. let e : vectorPart * p + k ≡ placeWorkingCopy + k = omega arith in rw e (copy positions-finite h k b))
 
   past-finite : (p k : ℕ) → p < 4 → 3 * t .count ≤ k → k < vectorPart → isFinite (getD d (vectorPart * p + k) nan) ≡ true
-  past-finite p k a b c = rw (past p k b c) (number-finite (t .drape) h (vectorPart * p + k) (omega (arith, w .drape)))
+  past-finite p k a b c = rw (past p k b c) (every-getD isFinite nan (t .drape) h (vectorPart * p + k) (omega (arith, w .drape)))
 
   placed-finite : (m : ℕ) → m < length d → isFinite (getD d m nan) ≡ true
   placed-finite m b =
@@ -67,7 +65,7 @@ module _ (t : Strand) (w : Whole t) (d : List Float) (long : length d ≡ length
 pub kept-copy : (t : Strand) (w : Whole t) (d : List Float) → part d placeVelocities (2 * vectorPart) ≡ part (t .drape) placeVelocities (2 * vectorPart) → CopyIsFinite t d
 kept-copy t w d e _ h k b =
     let same : (l : List Float) → getD l (placeWorkingCopy + k) nan ≡ getD (part l placeVelocities (2 * vectorPart)) (vectorPart + k) nan = λ l. sym (getD-part l placeVelocities (2 * vectorPart) (vectorPart + k) nan (omega (arith, w .count)) ∙ ap (λ (m : ℕ). getD l m nan) (omega arith)) in
-    rw (same d, e, sym (same (t .drape))) (number-finite (t .drape) h (placeWorkingCopy + k) (omega (arith, w .drape, w .count)))
+    rw (same d, e, sym (same (t .drape))) (every-getD isFinite nan (t .drape) h (placeWorkingCopy + k) (omega (arith, w .drape, w .count)))
 
 -- ---- a dynamic step
 module _ (t : Strand) (w : Whole t) (dt : Float) (u : List Vec4) where
@@ -121,4 +119,4 @@ module _ (t : Strand) (w : Whole t) (dt : Float) (u : List Vec4) where
       rw e
       (by-equality (getD (t .pins) (4 * (k / 3) + k % 3) 0) 0
       (λ p. rw (copy-free (k / 3) (k % 3) a b s p) (positions (3 * (k / 3) + k % 3) (omega arith)))
-      (λ p. rw (copy-pinned (k / 3) (k % 3) a b p) (number-finite (t .drape) h (placeWorkingCopy + 3 * (k / 3) + k % 3) (omega (arith, w .drape, w .count)))))
+      (λ p. rw (copy-pinned (k / 3) (k % 3) a b p) (every-getD isFinite nan (t .drape) h (placeWorkingCopy + 3 * (k / 3) + k % 3) (omega (arith, w .drape, w .count)))))

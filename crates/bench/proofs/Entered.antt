@@ -12,7 +12,8 @@ use borrow.Author.Tests.{eqb-true}
 use Rattle.matrix.specs.Area.{workNumbers}
 use Rattle.matrix.specs.System.{every}
 use Rattle.bench.specs.Areas.{seats, restNumbers, drapeNumbers, pinBytes}
-use Rattle.bench.specs.Strand.{Bench, strandOf, Left, putAll, entryOf}
+use Rattle.bench.specs.Strand.{Bench, noSettings, strandOf, Left, putAll, entryOf}
+use Rattle.bench.specs.Given.{goodSettings}
 use Rattle.bench.specs.Rows.{first}
 use Rattle.bench.specs.Answers.{Answer}
 use Rattle.bench.specs.Asks.{Request, Asks, Call, callWith, Lends, lends, Lent, lentOf}
@@ -20,7 +21,7 @@ use Rattle.bench.specs.Requests.{caseAt}
 use Rattle.bench.specs.Calls.{restLong, drapeLong, pinsLong, lentLong, seatRows, caseOf, refusal, answerBy, leavesBy, doneOf, numberOf, answerOf, afterOf}
 use Rattle.bench.proofs.RowLaws.{held-at, second-none}
 use Rattle.bench.proofs.EntryRows.{entry-passed}
-use Rattle.bench.proofs.GoodSeats.{Between, taken-seat, small-seat}
+use Rattle.bench.proofs.GoodSeats.{Between, taken-seat, taken-settings, small-seat}
 
 -- ---- every call
 pub answer-refused : (a : Asks) (k : ℕ) (r : Answer) → k ≢ 0 → answerBy a k r ≡ refusal a k
@@ -76,6 +77,7 @@ module _ (w : List Float) (s : ℕ) (a : Request) (b : Bench) where
     pub seat : s < seats
     pub small : getD (b .seats .counts) s 0 ≤ 32
     pub taken : getD (b .seats .counts) s 0 ≢ 0 → Between (getD (b .seats .counts) s 0)
+    pub settings : getD (b .seats .counts) s 0 ≢ 0 → goodSettings (getD (b .seats .settings) s noSettings) ≡ true
     pub rows : first (caseAt a (strandOf s b) .rows) ≡ 0
 
   pub entered : (k : ℕ) → k ≡ numberOf (callWith w s a) b → k ≡ 0 → Entered
@@ -90,5 +92,6 @@ module _ (w : List Float) (s : ℕ) (a : Request) (b : Bench) where
         seat = p .seat;
         small = small-seat (entryOf s (b .seats)) (p .good);
         taken = taken-seat (entryOf s (b .seats)) (p .good);
+        settings = taken-settings (entryOf s (b .seats)) (p .good);
         rows = second-none ps rs refl h;
       }

@@ -1,15 +1,16 @@
 -- A test that all elements of a list pass: of lists put together, of parts, and of one element.
-use mathlib.Core.Path.{_≡_, refl}
+use mathlib.Core.Path.{_≡_, refl, ap, _∙_}
 use mathlib.Core.Bool.{Bool, true, or-true}
 use mathlib.Core.List.{List, [], _∷_, _++_}
-use Prim.Native.Nat.{ℕ, zero, suc}
+use Prim.Native.Nat.{ℕ, zero, suc, _<_}
 use lib.Dec.{eqb}
-use lib.ListN.{replicate, take, drop}
+use lib.ListN.{length, getD, replicate, take, drop}
 use borrow.Author.Tests.{eqb-true}
 use Rattle.matrix.specs.Parts.{part}
 use Rattle.matrix.specs.System.{every}
 use Rattle.matrix.proofs.Cases.{by-test}
-use Rattle.matrix.proofs.Every.{and-left, and-right}
+use Rattle.matrix.proofs.Every.{and-left, and-right, every-at}
+use Rattle.matrix.proofs.Parts.{table-of}
 use Rattle.bench.specs.Rows.{any}
 
 module _ {A : Type 0} (t : A → Bool) where
@@ -38,6 +39,10 @@ module _ {A : Type 0} (t : A → Bool) where
   pub every-part : (o n : ℕ) (l : List A) → every t l ≡ true → every t (part l o n) ≡ true
   unfolding part
   every-part o n l e = every-take n (drop o l) (every-drop o l e)
+
+  -- the element at k; x stands for those past the end
+  pub every-getD : (x : A) (l : List A) → every t l ≡ true → (k : ℕ) → k < length l → t (getD l k x) ≡ true
+  every-getD x l h k b = every-at t (length l) (λ i. getD l i x) (ap (every t) (table-of x l) ∙ h) k b
 
   -- what passes u passes t
   pub every-weaken : (u : A → Bool) → ((x : A) → u x ≡ true → t x ≡ true) → (l : List A) → every u l ≡ true → every t l ≡ true

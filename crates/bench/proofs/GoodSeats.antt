@@ -1,4 +1,4 @@
--- A seat of a good record is empty, or its count is one that load takes.
+-- A seat of a good record is empty, or its count and settings are such as load takes.
 use mathlib.Core.Path.{_≡_}
 use mathlib.Core.Bool.{true}
 use mathlib.Core.List.{[], _∷_}
@@ -11,6 +11,7 @@ use Rattle.matrix.proofs.Cases.{by-equality}
 use Rattle.matrix.proofs.Every.{and-left, and-right, every-at}
 use Rattle.bench.specs.declared.seats.Record.{Record}
 use Rattle.bench.specs.Areas.{seats}
+use Rattle.bench.specs.Rows.{all}
 use Rattle.bench.specs.Strand.{Entry, entryOf}
 use Rattle.bench.specs.Given.{goodCount, goodSettings, goodSeat, goodRecord}
 use Rattle.bench.proofs.RowLaws.{held-at}
@@ -22,9 +23,15 @@ pub record Between (n : ℕ) : Type 0 where
 pub between : (n : ℕ) → goodCount n ≡ true → Between n
 between n h = record { least = leb-true 2 n (and-left (leb 2 n) (leb n 32) h); most = leb-true n 32 (and-right (leb 2 n) (leb n 32) h) }
 
-pub taken-seat : (e : Entry) → goodSeat e ≡ true → e .count ≢ 0 → Between (e .count)
+taken-good : (e : Entry) → goodSeat e ≡ true → e .count ≢ 0 → all (goodCount (e .count) ∷ goodSettings (e .settings) ∷ []) ≡ true
 unfolding goodSeat
-taken-seat e h n = between (e .count) (held-at (goodCount (e .count) ∷ goodSettings (e .settings) ∷ []) 0 (rw (ne-eqb (e .count) 0 n) at h))
+taken-good e h n = rw (ne-eqb (e .count) 0 n) at h
+
+pub taken-seat : (e : Entry) → goodSeat e ≡ true → e .count ≢ 0 → Between (e .count)
+taken-seat e h n = between (e .count) (held-at _ 0 (taken-good e h n))
+
+pub taken-settings : (e : Entry) → goodSeat e ≡ true → e .count ≢ 0 → goodSettings (e .settings) ≡ true
+taken-settings e h n = held-at _ 1 (taken-good e h n)
 
 pub small-seat : (e : Entry) → goodSeat e ≡ true → e .count ≤ 32
 small-seat e h = by-equality (e .count) 0 (λ z. omega arith) (λ n. taken-seat e h n .most)

@@ -9,7 +9,7 @@ use native.Mathlib.Omega.{arith}
 use lib.Dec.{eqb, ltb}
 use lib.ListN.{length, getD, replicate, length-set, length-replicate, length-append, getD-replicate, List·getD-append}
 use lib.Seq.{getD-set-same, getD-set-other}
-use lib.Ieee.{Float, nan, lt}
+use lib.Ieee.{Float, nan}
 use borrow.Author.Tests.{ltb-true, eq-eqb, ne-eqb}
 use Rattle.vectors.specs.Number.{plusZero}
 use Rattle.vectors.specs.Finite.{isFinite}
@@ -47,7 +47,7 @@ numbered (companion k) t = refl
 numbered (step p d) t = refl
 
 -- demand i of row k of an accepted request
-shown : (a : Request) (t : Strand) → first (caseAt a t .rows) ≡ 0 → (k i : ℕ) → getD (demandsOf k (caseAt a t .rows)) i true ≡ true
+pub shown : (a : Request) (t : Strand) → first (caseAt a t .rows) ≡ 0 → (k i : ℕ) → getD (demandsOf k (caseAt a t .rows)) i true ≡ true
 shown a t e = holds (caseAt a t .rows) (numbered a t) e
 
 -- the request whose events are es takes x to y
@@ -88,7 +88,7 @@ finite-padded xs h = every-append isFinite xs _ h (finite-zeros (vectorPart - le
 
 finite-settings : (g : Settings) → goodSettings g ≡ true → every isFinite (settingNumbers g) ≡ true
 unfolding goodSettings
-finite-settings g h = every-weaken isFinite notNegative (λ x e. and-left (isFinite x) (not (lt x plusZero)) e) (settingNumbers g) h
+finite-settings g h = every-weaken isFinite notNegative (λ x e. and-left (isFinite x) _ e) (settingNumbers g) h
 
 load-next : (g : Load) (x : Strand) → Given g → Next (eventsAt (load g)) x (loadedOn g x)
 unfolding loadedOn story next
@@ -152,7 +152,7 @@ pin-next v c b x f e =
     }
 
 -- ---- a step
-asked-then : (p : Pick) (d : Time) (x : Strand) → first (caseAt (step p d) x .rows) ≡ 0 → first (updateOf x p d .rows) ≡ 0
+pub asked-then : (p : Pick) (d : Time) (x : Strand) → first (caseAt (step p d) x .rows) ≡ 0 → first (updateOf x p d .rows) ≡ 0
 unfolding caseAt every
 asked-then p d x e = second-none (askedRows x p d) (updateOf x p d .rows) refl e
 
