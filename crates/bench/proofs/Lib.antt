@@ -34,6 +34,7 @@ pub mod StoredDrape
 pub mod CopyFinite
 pub mod Accepting
 pub mod AcceptedKinds
+pub mod EnergySign
 pub mod PutBack
 mod Samples
 mod SamplesTwoSteps

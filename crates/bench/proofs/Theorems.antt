@@ -5,6 +5,7 @@ use Rattle.bench.proofs.EveryCall.{every-call-answers, companion-tells}
 use Rattle.bench.proofs.Contents.{contents-do-not-matter, same-as-itself}
 use Rattle.bench.proofs.Isolated.{keeps-its-own, isolation}
 use Rattle.bench.proofs.AcceptedKinds.{step-accepts, static-keeps}
+use Rattle.bench.proofs.EnergySign.{energy-has-no-minus}
 use Rattle.bench.proofs.Examples.{examples, pins-told}
 use Rattle.bench.proofs.Samples.{step-samples}
 use Rattle.bench.proofs.SamplesTwoSteps.{two-step-samples}
@@ -19,6 +20,7 @@ theorems = record {
   companion = companion-tells;
   steps = step-accepts;
   static = static-keeps;
+  energy = energy-has-no-minus;
   areas = filled;
   examples = examples;
   pinsTold = pins-told;

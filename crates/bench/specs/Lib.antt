@@ -13,6 +13,7 @@ pub mod Runs
 pub mod PinStory
 pub mod Isolation
 pub mod Accepted
+pub mod EnergySign
 pub mod Opened
 pub mod SamplesStep
 pub mod SamplesTwoSteps

@@ -3,6 +3,7 @@ use Rattle.bench.specs.Areas.{Filled}
 use Rattle.bench.specs.Runs.{KeepsItsOwn, SameAsItself}
 use Rattle.bench.specs.Isolation.{Isolation, ContentsDoNotMatter, EveryCallAnswers, CompanionTells}
 use Rattle.bench.specs.Accepted.{StepAccepts, StaticKeeps}
+use Rattle.bench.specs.EnergySign.{EnergyHasNoMinus}
 use Rattle.bench.specs.Examples.{Examples, PinsTold}
 use Rattle.bench.specs.SamplesStep.{StepSamples}
 use Rattle.bench.specs.SamplesTwoSteps.{TwoStepSamples}
@@ -22,6 +23,8 @@ pub record Theorems : Type 0 where
   -- what holds after every accepted step, and what a static one leaves alone
   pub steps : StepAccepts
   pub static : StaticKeeps
+  -- no accepted step reports an energy with a minus sign
+  pub energy : EnergyHasNoMinus
   -- six parts fill an area
   pub areas : Filled
   -- document 01's P1 to P10
