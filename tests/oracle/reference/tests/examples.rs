@@ -84,3 +84,24 @@ fn zeros_of_a_spring_at_rest() {
     let negative_zeros = dw.map(|v| v.map(|x| x == 0.0 && x.is_sign_negative()));
     assert_eq!(negative_zeros, [[false, true, true], [true, false, false]]);
 }
+
+/// At stiffness -0, which is not below 0, a spring stores -0; the strand's energy is a sum from +0
+/// on, and so +0. A stiffness below 0 makes an energy below 0.
+#[test]
+fn signs_of_energies() {
+    let stored = |stiffness: f64, end: f64| {
+        let ends = [[0.0; 3], [end, 0.0, 0.0]];
+        wdwddw_squared_length_difference(stiffness, &ends, 1.0).0
+    };
+    let minus_zero = (-0.0f64).to_bits();
+    assert_eq!(
+        [0.5, 1.0, 2.0].map(|end| stored(-0.0, end).to_bits()),
+        [minus_zero; 3]
+    );
+    let framex = [0.0, 1.0, 0.0, 0.0, 1.0, 0.0];
+    let xyz = [0.0, 0.0, 0.0, 1.0, 0.0, 0.0];
+    let mut strand = strand(&xyz, &framex, -0.0, [-0.0; 3]);
+    strand.update_static(&None);
+    assert_eq!(strand.w.to_bits(), 0);
+    assert_eq!(stored(-1.0, 2.0), -0.5);
+}

@@ -41,6 +41,12 @@ pub const ALL: &[Mutation] = &[
             => "half * stiffness * (c * c)",
     ),
     wrong!(
+        "stretch energy (half*k)*c",
+        "spring3.rs",
+        "half * stiffness * c * c"
+            => "half * stiffness * c",
+    ),
+    wrong!(
         "Darboux of the rest by 1/s",
         "rod3_darboux.rs",
         "[u[0] / s, u[1] / s, u[2] / s]"
@@ -81,6 +87,12 @@ pub const ALL: &[Mutation] = &[
         "rod3_darboux.rs",
         "stiff_bendtwist[1] * r[1] * r[1]"
             => "stiff_bendtwist[1] * (r[1] * r[1])",
+    ),
+    wrong!(
+        "the energy summed from -0 on",
+        "rod3_darboux.rs",
+        "*w = zero;"
+            => "*w = -zero;",
     ),
     wrong!(
         "bend gradient (dcdp*r)*k",
