@@ -90,8 +90,8 @@ typedef struct {
     uint8_t refusal;
 } hairbench_changed;
 
-/* A step's answer: the number that it is refused with, 0 for none; the energy, the iterations of the solve and
- * its last ratio, which are 0 where it is refused. */
+/* A step's answer: the number that it is refused with, 0 for none; the energy, which is never below 0 and never -0,
+ * the iterations of the solve and its last ratio, all three 0 where it is refused. */
 typedef struct {
     uint8_t number;
     double energy;

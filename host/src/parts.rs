@@ -70,7 +70,7 @@ pub enum Kind {
 /// What an accepted step answers.
 #[derive(Clone, Copy, Debug, PartialEq)]
 pub struct StepReport {
-    /// The elastic energy that the step began with; a pick adds nothing to it.
+    /// The elastic energy that the step began with: finite, never below 0 and never -0. A pick adds nothing to it.
     pub energy: f64,
     /// The iterations of the solve.
     pub count: usize,

@@ -6,7 +6,7 @@ function across(tick) {
   return PLOT.left + (PLOT.wide - PLOT.left - PLOT.right) * tick / last;
 }
 
-// A scale of decades where the values span more than three, else from 0 up.
+// A scale of decades where the values span more than three, else from 0 up: no energy and no count is below 0.
 function upward(values) {
   const most = values.reduce((a, b) => Math.max(a, b), 0);
   const least = values.reduce((a, b) => b > 0 ? Math.min(a, b) : a, most);
