@@ -122,6 +122,25 @@ def imported(text):
     return lib, own
 
 
+def record_fields():
+    """The fields of the repository's own records."""
+    found = set()
+    for p in files((".antt",)):
+        at = None
+        for line in read(p).splitlines():
+            code, _ = code_of(line)
+            if not code.strip():
+                continue
+            indent = len(code) - len(code.lstrip())
+            if at is not None and indent <= at:
+                at = None
+            if re.match(r"\s*(?:(?:abbrev|pub) )*record .*where\s*$", code):
+                at = indent
+            elif at is not None and DECLARED.match(code):
+                found.add(DECLARED.match(code)[1])
+    return found
+
+
 def gather():
     own = collections.defaultdict(set)
     for p in files((".antt",)):
@@ -140,7 +159,7 @@ def gather():
     return {w: ps for w, ps in own.items() if any(d for _, d in ps) or all(turns(w) for _ in ps)}
 
 
-def turn_antt(text, own):
+def turn_antt(text, own, kept=frozenset()):
     lib, aliases = imported(text)
     made = set(MADE.findall(text))
 
@@ -153,7 +172,7 @@ def turn_antt(text, own):
         before = line[: m.start()]
         if before.endswith(".") and ("-" in w or w in OVERRIDES):
             head = re.search(rf"({WORD})\.$", before)
-            if not (head and head[1] in aliases):
+            if w not in kept and not (head and head[1] in aliases):
                 return w
         return snake(w)
 
@@ -202,6 +221,9 @@ def turn_md(text, own):
 
 def main(argv):
     own = gather()
+    kept = record_fields()
+    if any(n.endswith("_lem") for n in TOKEN.findall("\n".join(read(p) for p in files((".antt",))))):
+        sys.exit("respell: has run already")
     outside = {**own, **{n: set() for n in TURNED}}
     by_new = collections.defaultdict(set)
     for w in own:
@@ -229,7 +251,7 @@ def main(argv):
     for p in files((".antt", ".rt", ".edit", ".md")):
         old = read(p)
         if p.endswith(".antt"):
-            new = turn_antt(old, own)
+            new = turn_antt(old, own, kept)
         elif p.endswith(".rt"):
             new = fields(camel(old, own), own)
         elif p.endswith(".edit"):

@@ -2,14 +2,14 @@
 use vectors::vec3::Vec3;
 
 // A vertex that is pulled to a goal, or none.
-#[derive(Drop)]
+#[derive(Clone, Copy)]
 pub enum Pick {
     Nothing,
     At(usize, Vec3),
 }
 
 // A step's answer: accepted with its numbers, or the number that it is refused with.
-#[derive(Drop)]
+#[derive(Clone, Copy)]
 pub enum StepAnswer {
     Accepted {
         energy: f64,

@@ -1,4 +1,6 @@
 // The bench: six seats, each empty or with one strand, in areas that the caller lends.
+#![tactic(auto)]
+
 pub mod answers;
 pub mod areas;
 mod asked;

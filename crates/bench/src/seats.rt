@@ -9,7 +9,7 @@ use crate::areas;
 // A strand's settings, which travel together: the stiffness against stretch, the three against bend
 // and twist, and the ratio below which a solve ends.
 #[repr(C)]
-#[derive(Drop)]
+#[derive(Clone, Copy)]
 pub struct Settings {
     pub stiff_length: f64,
     pub stiff_bendtwist0: f64,
@@ -20,7 +20,7 @@ pub struct Settings {
 
 // Of each seat the number of its strand's vertices, 0 where it is empty, and the settings.
 #[repr(C)]
-#[derive(Drop)]
+#[derive(Clone, Copy)]
 pub struct Record {
     pub counts: [usize; 6],
     pub settings: [Settings; 6],
@@ -28,7 +28,7 @@ pub struct Record {
 
 // The record after a call, and the number that the call is refused with, 0 for none.
 #[repr(C)]
-#[derive(Drop)]
+#[derive(Clone, Copy)]
 pub struct Changed {
     pub seats: Record,
     pub refusal: u8,

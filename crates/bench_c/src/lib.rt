@@ -1,4 +1,6 @@
 // The bench for programs in C and Rust: its calls, with picks and answers as numbers.
+#![tactic(auto)]
+
 ghost use Rattle.std.specs.Prelude.{◌≡◌, List, ℕ, Float};
 ghost use Rattle.roots.specs.Sqrt.{sqrt_of};
 ghost use Rattle.vectors.specs.Vec3.{vec3};
@@ -18,7 +20,7 @@ use vectors::vec3::Vec3;
 
 // A step's answer: the number that it is refused with, 0 for none, and its numbers.
 #[repr(C)]
-#[derive(Drop)]
+#[derive(Clone, Copy)]
 pub struct Report {
     pub number: u8,
     pub energy: f64,
@@ -28,7 +30,7 @@ pub struct Report {
 
 // A part of an area: its first place, and how many numbers it has.
 #[repr(C)]
-#[derive(Drop)]
+#[derive(Clone, Copy)]
 pub struct Place {
     pub at: usize,
     pub count: usize,

@@ -11,7 +11,7 @@ use vectors::vec3::Vec3;
 use vectors::{mat3, vec3};
 
 // Three vertices and the frame's x axis at each of the two edges between them.
-#[derive(Drop)]
+#[derive(Clone, Copy)]
 pub struct Rod {
     pub p0: Vec3,
     pub p1: Vec3,
@@ -21,28 +21,28 @@ pub struct Rod {
 }
 
 // Three axes across each other, z along the edge.
-#[derive(Drop)]
+#[derive(Clone, Copy)]
 pub struct RodFrame {
     pub x: Vec3,
     pub y: Vec3,
     pub z: Vec3,
 }
 
-#[derive(Drop)]
+#[derive(Clone, Copy)]
 pub struct EdgeFrame {
     pub frame: RodFrame,
     pub length: f64,
 }
 
 // One axis of a frame, its derivative by the edge (row i: the i-th coordinate) and by the twist.
-#[derive(Drop)]
+#[derive(Clone, Copy)]
 pub struct FrameAxis {
     pub axis: Vec3,
     pub dv: Mat3,
     pub dt: Vec3,
 }
 
-#[derive(Drop)]
+#[derive(Clone, Copy)]
 pub struct FrameGradient {
     pub x: FrameAxis,
     pub y: FrameAxis,
@@ -50,7 +50,7 @@ pub struct FrameGradient {
 }
 
 // The derivative of a number by the three vertices and the two twists.
-#[derive(Drop)]
+#[derive(Clone, Copy)]
 pub struct Gradient {
     pub p0: Vec3,
     pub p1: Vec3,
@@ -59,14 +59,14 @@ pub struct Gradient {
     pub t1: f64,
 }
 
-#[derive(Drop)]
+#[derive(Clone, Copy)]
 pub struct DarbouxAxis {
     pub c: f64,
     pub d: Gradient,
 }
 
 // The Darboux vector, and the gradient of each of its components.
-#[derive(Drop)]
+#[derive(Clone, Copy)]
 pub struct DarbouxGradient {
     pub c: Vec3,
     pub d0: Gradient,
@@ -76,6 +76,7 @@ pub struct DarbouxGradient {
 
 // The frame of the edge from p0 to p1 whose x axis is x, by a length that is given: its own, where
 // that is known. It serves the unit.
+#[tactic(auto, unfolding(crate::specs::Darboux::edge_frame_of_length))]
 pub fn edge_frame_of_length(p0: Vec3, p1: Vec3, x: Vec3, len: f64) -> EdgeFrame
     ensures { result ≡ edge_frame_of_length p0 p1 x len }
 {
@@ -95,6 +96,7 @@ fn edge_frame(p0: Vec3, p1: Vec3, x: Vec3) -> EdgeFrame
     edge_frame_of_length(p0, p1, x, vec3::norm(vec3::sub(p1, p0)))
 }
 
+#[tactic(auto, unfolding(crate::specs::Darboux::rod_frame_gradient))]
 pub fn rod_frame_gradient(len: f64, frame: RodFrame) -> FrameGradient
     ensures { result ≡ rod_frame_gradient len frame }
 {
@@ -128,6 +130,7 @@ pub fn rod_frame_gradient(len: f64, frame: RodFrame) -> FrameGradient
     }
 }
 
+#[tactic(auto, unfolding(crate::specs::Darboux::no_gradient))]
 fn no_gradient() -> Gradient
     ensures { result ≡ no_gradient }
 {
@@ -147,6 +150,7 @@ fn no_gradient() -> Gradient
 
 // g with c times the gradient of dot(a, b) added, a an axis of the first edge's frame and b one of
 // the second's.
+#[tactic(auto, unfolding(crate::specs::Darboux::add_gradient_of_dot_frame_axis))]
 pub fn add_gradient_of_dot_frame_axis(g: Gradient, c: f64, a: FrameAxis, b: FrameAxis) -> Gradient
     ensures { result ≡ add_gradient_of_dot_frame_axis g c a b }
 {
@@ -171,6 +175,7 @@ pub fn add_gradient_of_dot_frame_axis(g: Gradient, c: f64, a: FrameAxis, b: Fram
 }
 
 // 1 and the cosines between the axes of both frames.
+#[tactic(auto, unfolding(crate::specs::Darboux::darboux_denominator))]
 fn darboux_denominator(a: RodFrame, b: RodFrame) -> f64
     ensures { result ≡ darboux_denominator a b }
 {
@@ -183,6 +188,7 @@ fn darboux_denominator(a: RodFrame, b: RodFrame) -> f64
     1.0 + vec3::dot(ax, bx) + vec3::dot(ay, by) + vec3::dot(az, bz)
 }
 
+#[tactic(auto, unfolding(crate::specs::Darboux::denominator_gradient))]
 fn denominator_gradient(a: FrameGradient, b: FrameGradient) -> Gradient
     ensures { result ≡ denominator_gradient a b }
 {
@@ -198,6 +204,7 @@ fn denominator_gradient(a: FrameGradient, b: FrameGradient) -> Gradient
 }
 
 // The Darboux vector of two neighbouring edges by their frames.
+#[tactic(auto, unfolding(crate::specs::Darboux::darboux_of))]
 pub fn darboux(a: RodFrame, b: RodFrame) -> Vec3
     ensures { result ≡ darboux_of a b }
 {
@@ -218,6 +225,7 @@ pub fn darboux(a: RodFrame, b: RodFrame) -> Vec3
     }
 }
 
+#[tactic(auto, unfolding(crate::specs::Darboux::darboux_rod))]
 pub fn darboux_rod(rod: Rod) -> Vec3
     ensures { result ≡ darboux_rod rod }
 {
@@ -234,6 +242,7 @@ pub fn darboux_rod(rod: Rod) -> Vec3
 }
 
 // t0 times one gradient and t1 times another.
+#[tactic(auto, unfolding(crate::specs::Darboux::combined_gradient))]
 fn combined(a: Gradient, t0: f64, b: Gradient, t1: f64) -> Gradient
     ensures { result ≡ combined_gradient a t0 b t1 }
 {
@@ -254,6 +263,7 @@ fn combined(a: Gradient, t0: f64, b: Gradient, t1: f64) -> Gradient
 
 // One component of the Darboux vector, from the axes j and k of both frames; s is the denominator
 // and ds its gradient.
+#[tactic(auto, unfolding(crate::specs::Darboux::darboux_axis))]
 fn darboux_axis(
     s: f64,
     ds: Gradient,
@@ -278,6 +288,7 @@ fn darboux_axis(
 }
 
 // Two neighbouring edges are given by their frames and lengths.
+#[tactic(auto, unfolding(crate::specs::Darboux::cdc_of))]
 pub fn cdc_rod_darboux(ea: EdgeFrame, eb: EdgeFrame) -> DarbouxGradient
     ensures { result ≡ cdc_of ea eb }
 {

@@ -8,7 +8,7 @@ use vectors::{mat3, vec3};
 
 // Energy w, its gradients at both ends, and two of the four blocks of second derivatives: `same` for
 // an end with itself, `other` for one end with the other.
-#[derive(Drop)]
+#[derive(Clone, Copy)]
 pub struct Stretch {
     pub w: f64,
     pub dw0: Vec3,
@@ -18,6 +18,7 @@ pub struct Stretch {
 }
 
 // The edge v has the length l; at rest it had edge_length_ini.
+#[tactic(auto, unfolding(crate::specs::Spring3::stretch_block))]
 fn stretch_block(stiffness: f64, v: Vec3, l: f64, edge_length_ini: f64) -> Mat3
     ensures { result ≡ stretch_block stiffness v l edge_length_ini }
 {
@@ -29,6 +30,7 @@ fn stretch_block(stiffness: f64, v: Vec3, l: f64, edge_length_ini: f64) -> Mat3
 }
 
 // The stretch of an edge by a length l that is given: its own, where that is known.
+#[tactic(auto, unfolding(crate::specs::Spring3::stretch_of_length, crate::specs::Square::square))]
 pub fn stretch_of_length(
     stiffness: f64,
     p0: Vec3,

@@ -12,7 +12,7 @@ use crate::{area, root_bound, slice_of_array, sparse_square};
 const EPSILON: f64 = 2.220446049250313e-16;
 
 // How a solve ended: the number of iterations, and the last residual's length over the first one's.
-#[derive(Drop)]
+#[derive(Clone, Copy)]
 pub struct Solve {
     pub count: usize,
     pub ratio: f64,

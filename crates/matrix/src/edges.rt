@@ -12,7 +12,7 @@ use elements::rod3_darboux::EdgeFrame;
 use vectors::edge3;
 
 // One edge at rest and as it is staged.
-#[derive(Drop)]
+#[derive(Clone, Copy)]
 pub struct EdgeFrames {
     pub ini: EdgeFrame,
     pub def: EdgeFrame,

@@ -1,4 +1,6 @@
 // Vectors of rows of four numbers and a matrix of blocks, in one flat area that the caller lends.
+#![tactic(auto)]
+
 pub mod area;
 pub mod conjugate_gradient;
 mod edges;

@@ -10,7 +10,7 @@ use lib.Pow.{pow_pos, pow-add}
 use lib.Ieee.{nan, inf, fin, Format, binary64, prec, low}
 use lib.Ieee.Fits.{two, two-le_pos, down_pos}
 use lib.Ieee.Order.{drop}
-use lib.Ieee.Positive.{positive, num, den}
+use lib.Ieee.Positive.{num, den}
 use Rattle.roots.specs.Sqrt.{sqrt_of}
 use Rattle.roots.specs.Correct.{Tie, SqrtNeverTies}
 use Rattle.roots.proofs.Spacing.{Spaced, power_split, written, one_count, spaced}

@@ -1,4 +1,6 @@
 // The square root of an f64, correctly rounded: to nearest, ties to even.
+#![tactic(auto)]
+
 mod digits;
 
 ghost use Rattle.std.specs.Prelude.{◌≡◌, not, T, ◌*◌, ◌^◌, ◌≤◌, ◌<◌};

@@ -19,6 +19,7 @@ const COSINE_DIVISORS: [f64; 14] = [
 ];
 
 // The angle less its whole turns, folded once into the turn from -PI to PI.
+#[tactic(auto, unfolding(crate::specs::Angle::reduced_of))]
 fn reduced(angle: f64) -> f64
     ensures { result ≡ reduced_of angle }
 {
@@ -48,7 +49,7 @@ fn series(z: f64, divisors: &[f64]) -> f64
 // The sine of a finite angle; NaN for any other.
 pub fn sine(angle: f64) -> f64
     ensures value { result ≡ sine_of angle }
-    ensures value_2 { is_finite angle ≡ false → result ≡ nan }
+    ensures otherwise { is_finite angle ≡ false → result ≡ nan }
 {
     let a = reduced(angle);
     a * series(a * a, &SINE_DIVISORS)
@@ -57,7 +58,7 @@ pub fn sine(angle: f64) -> f64
 // The cosine of a finite angle; NaN for any other.
 pub fn cosine(angle: f64) -> f64
     ensures value { result ≡ cosine_of angle }
-    ensures value_2 { is_finite angle ≡ false → result ≡ nan }
+    ensures otherwise { is_finite angle ≡ false → result ≡ nan }
 {
     let a = reduced(angle);
     series(a * a, &COSINE_DIVISORS)

@@ -6,13 +6,14 @@ use crate::vec3::Vec3;
 use crate::{finite, vec3};
 
 // A length, and whether the squared length that it is the root of was finite and above 0.
-#[derive(Drop)]
+#[derive(Clone, Copy)]
 pub struct EdgeLength {
     pub value: f64,
     pub acceptable: bool,
 }
 
 // The judge of a squared length.
+#[tactic(auto, unfolding(crate::specs::Edge::acceptable))]
 fn accepts(squared: f64) -> bool
     ensures { result ≡ acceptable squared }
 {
@@ -20,6 +21,7 @@ fn accepts(squared: f64) -> bool
 }
 
 // The length of the edge v.
+#[tactic(auto, unfolding(crate::specs::Edge::measured_of))]
 pub fn measured(v: Vec3) -> EdgeLength
     ensures { result ≡ measured_of v }
 {
@@ -31,6 +33,7 @@ pub fn measured(v: Vec3) -> EdgeLength
 }
 
 // The length of the edge from p0 to p1.
+#[tactic(auto, unfolding(crate::specs::Edge::edge_length))]
 pub fn length(p0: Vec3, p1: Vec3) -> EdgeLength
     ensures { result ≡ edge_length p0 p1 }
 {
@@ -38,6 +41,7 @@ pub fn length(p0: Vec3, p1: Vec3) -> EdgeLength
 }
 
 // Whether the edge from p0 to p1 has a length to work with, which takes no root to tell.
+#[tactic(auto, unfolding(crate::specs::Edge::edge_length, crate::specs::Edge::measured_of))]
 pub fn is_acceptable(p0: Vec3, p1: Vec3) -> bool
     ensures { result ≡ (edge_length p0 p1).acceptable }
 {

@@ -13,18 +13,21 @@ pub fn is_finite(x: f64) -> bool
     x - x == 0.0
 }
 
+#[tactic(auto, unfolding(crate::specs::Finite::vec3_is_finite))]
 pub fn vec3_is_finite(v: Vec3) -> bool
     ensures { result ≡ vec3_is_finite v }
 {
     is_finite(v.x) & is_finite(v.y) & is_finite(v.z)
 }
 
+#[tactic(auto, unfolding(crate::specs::Finite::vec4_is_finite))]
 pub fn vec4_is_finite(v: Vec4) -> bool
     ensures { result ≡ vec4_is_finite v }
 {
     is_finite(v.x) & is_finite(v.y) & is_finite(v.z) & is_finite(v.w)
 }
 
+#[tactic(auto, unfolding(crate::specs::Finite::mat4_is_finite))]
 pub fn mat4_is_finite(m: Mat4) -> bool
     ensures { result ≡ mat4_is_finite m }
 {

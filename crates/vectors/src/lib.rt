@@ -1,5 +1,7 @@
 // Vectors and blocks by value, sine and cosine, and the turn of one unit vector into another. Each
 // operation is the one that document 01 fixes, in its order.
+#![tactic(auto)]
+
 pub mod angle;
 pub mod edge3;
 pub mod finite;

@@ -5,13 +5,14 @@ ghost use Rattle.vectors.specs.Mat3.{mat3_add, mat3_add_three, mat3_scale, mat3_
 use crate::vec3;
 use crate::vec3::Vec3;
 
-#[derive(Drop)]
+#[derive(Clone, Copy)]
 pub struct Mat3 {
     pub r0: Vec3,
     pub r1: Vec3,
     pub r2: Vec3,
 }
 
+#[tactic(auto, unfolding(crate::specs::Mat3::mat3_add))]
 pub fn add(a: Mat3, b: Mat3) -> Mat3
     ensures { result ≡ mat3_add a b }
 {
@@ -28,12 +29,14 @@ pub fn add(a: Mat3, b: Mat3) -> Mat3
     }
 }
 
+#[tactic(auto, unfolding(crate::specs::Mat3::mat3_add_three))]
 pub fn add_three(a: Mat3, b: Mat3, c: Mat3) -> Mat3
     ensures { result ≡ mat3_add_three a b c }
 {
     add(add(a, b), c)
 }
 
+#[tactic(auto, unfolding(crate::specs::Mat3::mat3_scale))]
 pub fn scale(a: Mat3, s: f64) -> Mat3
     ensures { result ≡ mat3_scale a s }
 {
@@ -47,6 +50,7 @@ pub fn scale(a: Mat3, s: f64) -> Mat3
     }
 }
 
+#[tactic(auto, unfolding(crate::specs::Mat3::mat3_identity))]
 pub fn from_identity() -> Mat3
     ensures { result ≡ mat3_identity }
 {
@@ -57,6 +61,7 @@ pub fn from_identity() -> Mat3
     })
 }
 
+#[tactic(auto, unfolding(crate::specs::Mat3::mat3_diagonal))]
 pub fn from_diagonal(d: Vec3) -> Mat3
     ensures { result ≡ mat3_diagonal d }
 {
@@ -80,6 +85,7 @@ pub fn from_diagonal(d: Vec3) -> Mat3
 }
 
 // Row i, column j is (s * a_i) * b_j.
+#[tactic(auto, unfolding(crate::specs::Mat3::mat3_scaled_outer_product))]
 pub fn from_scaled_outer_product(s: f64, a: Vec3, b: Vec3) -> Mat3
     ensures { result ≡ mat3_scaled_outer_product s a b }
 {
@@ -91,6 +97,7 @@ pub fn from_scaled_outer_product(s: f64, a: Vec3, b: Vec3) -> Mat3
 }
 
 // The projection onto the plane across the unit vector z.
+#[tactic(auto, unfolding(crate::specs::Mat3::mat3_projection))]
 pub fn from_projection_onto_plane(z: Vec3) -> Mat3
     ensures { result ≡ mat3_projection z }
 {

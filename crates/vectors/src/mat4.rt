@@ -6,7 +6,7 @@ use crate::mat3::Mat3;
 use crate::vec4;
 use crate::vec4::Vec4;
 
-#[derive(Drop)]
+#[derive(Clone, Copy)]
 pub struct Mat4 {
     pub c0: Vec4,
     pub c1: Vec4,
@@ -15,6 +15,7 @@ pub struct Mat4 {
 }
 
 // Every entry is added, zeros too.
+#[tactic(auto, unfolding(crate::specs::Mat4::mat4_add))]
 pub fn add(a: Mat4, b: Mat4) -> Mat4
     ensures { result ≡ mat4_add a b }
 {
@@ -35,6 +36,7 @@ pub fn add(a: Mat4, b: Mat4) -> Mat4
 }
 
 // The block m with zeros beside and below it, and w at place 15.
+#[tactic(auto, unfolding(crate::specs::Mat4::mat4_from_mat3))]
 pub fn from_mat3_adding_w(m: Mat3, w: f64) -> Mat4
     ensures { result ≡ mat4_from_mat3 m w }
 {

@@ -7,6 +7,7 @@ use crate::vec3::Vec3;
 
 // v turned as the unit vector a turns into the unit vector b. Where the two are opposite there is
 // no least turn, and 1 + dot(a, b) is 0.
+#[tactic(auto, unfolding(crate::specs::Rotation::rotated_of))]
 pub fn rotated(a: Vec3, b: Vec3, v: Vec3) -> Vec3
     ensures { result ≡ rotated_of a b v }
 {

@@ -5,13 +5,14 @@ ghost use Rattle.vectors.specs.Mat3.{vec3_times_mat3};
 
 use crate::mat3::Mat3;
 
-#[derive(Drop)]
+#[derive(Clone, Copy)]
 pub struct Vec3 {
     pub x: f64,
     pub y: f64,
     pub z: f64,
 }
 
+#[tactic(auto, unfolding(crate::specs::Vec3::vec3_add))]
 pub fn add(a: Vec3, b: Vec3) -> Vec3
     ensures { result ≡ vec3_add a b }
 {
@@ -22,6 +23,7 @@ pub fn add(a: Vec3, b: Vec3) -> Vec3
     }
 }
 
+#[tactic(auto, unfolding(crate::specs::Vec3::vec3_sub))]
 pub fn sub(a: Vec3, b: Vec3) -> Vec3
     ensures { result ≡ vec3_sub a b }
 {
@@ -32,6 +34,7 @@ pub fn sub(a: Vec3, b: Vec3) -> Vec3
     }
 }
 
+#[tactic(auto, unfolding(crate::specs::Vec3::vec3_scale))]
 pub fn scale(a: Vec3, s: f64) -> Vec3
     ensures { result ≡ vec3_scale a s }
 {
@@ -42,30 +45,35 @@ pub fn scale(a: Vec3, s: f64) -> Vec3
     }
 }
 
+#[tactic(auto, unfolding(crate::specs::Vec3::vec3_add_three))]
 pub fn add_three(a: Vec3, b: Vec3, c: Vec3) -> Vec3
     ensures { result ≡ vec3_add_three a b c }
 {
     add(add(a, b), c)
 }
 
+#[tactic(auto, unfolding(crate::specs::Vec3::vec3_dot))]
 pub fn dot(a: Vec3, b: Vec3) -> f64
     ensures { result ≡ vec3_dot a b }
 {
     a.x * b.x + a.y * b.y + a.z * b.z
 }
 
+#[tactic(auto, unfolding(crate::specs::Vec3::vec3_norm))]
 pub fn norm(v: Vec3) -> f64
     ensures { result ≡ vec3_norm v }
 {
     roots::sqrt(dot(v, v))
 }
 
+#[tactic(auto, unfolding(crate::specs::Vec3::vec3_normalize))]
 pub fn normalize(v: Vec3) -> Vec3
     ensures { result ≡ vec3_normalize v }
 {
     scale(v, 1.0 / norm(v))
 }
 
+#[tactic(auto, unfolding(crate::specs::Vec3::vec3_cross))]
 pub fn cross(a: Vec3, b: Vec3) -> Vec3
     ensures { result ≡ vec3_cross a b }
 {
@@ -77,6 +85,7 @@ pub fn cross(a: Vec3, b: Vec3) -> Vec3
 }
 
 // What is left of f without its part along v.
+#[tactic(auto, unfolding(crate::specs::Vec3::vec3_orthogonalize))]
 pub fn orthogonalize(v: Vec3, f: Vec3) -> Vec3
     ensures { result ≡ vec3_orthogonalize v f }
 {
@@ -85,6 +94,7 @@ pub fn orthogonalize(v: Vec3, f: Vec3) -> Vec3
 }
 
 // The row vector q times the block a.
+#[tactic(auto, unfolding(crate::specs::Mat3::vec3_times_mat3))]
 pub fn mult_mat3_array_of_array(q: Vec3, a: Mat3) -> Vec3
     ensures { result ≡ vec3_times_mat3 q a }
 {

@@ -4,7 +4,7 @@ ghost use Rattle.vectors.specs.Vec4.{vec4_add, vec4_scale, vec4_dot, vec4_from_v
 
 use crate::vec3::Vec3;
 
-#[derive(Drop)]
+#[derive(Clone, Copy)]
 pub struct Vec4 {
     pub x: f64,
     pub y: f64,
@@ -12,6 +12,7 @@ pub struct Vec4 {
     pub w: f64,
 }
 
+#[tactic(auto, unfolding(crate::specs::Vec4::vec4_add))]
 pub fn add(a: Vec4, b: Vec4) -> Vec4
     ensures { result ≡ vec4_add a b }
 {
@@ -23,6 +24,7 @@ pub fn add(a: Vec4, b: Vec4) -> Vec4
     }
 }
 
+#[tactic(auto, unfolding(crate::specs::Vec4::vec4_scale))]
 pub fn scale(a: Vec4, s: f64) -> Vec4
     ensures { result ≡ vec4_scale a s }
 {
@@ -35,12 +37,14 @@ pub fn scale(a: Vec4, s: f64) -> Vec4
 }
 
 // The sum goes upward from +0.
+#[tactic(auto, unfolding(crate::specs::Vec4::vec4_dot))]
 pub fn dot(a: Vec4, b: Vec4) -> f64
     ensures { result ≡ vec4_dot a b }
 {
     0.0 + a.x * b.x + a.y * b.y + a.z * b.z + a.w * b.w
 }
 
+#[tactic(auto, unfolding(crate::specs::Vec4::vec4_from_vec3))]
 pub fn from_vec3(v: Vec3, w: f64) -> Vec4
     ensures { result ≡ vec4_from_vec3 v w }
 {

@@ -15,7 +15,7 @@ use matrix::{area, hair_system, loads, system};
 use vectors::vec3::Vec3;
 
 // What a step knows when it has begun: the number that it is refused with, 0 for none, and the energy.
-#[derive(Drop)]
+#[derive(Clone, Copy)]
 pub(crate) struct Begun {
     pub(crate) refusal: u8,
     pub(crate) energy: f64,

@@ -14,7 +14,7 @@ use vectors::{mat3, mat4, vec3, vec4};
 
 // What one vertex contributes: the gradients of the three components by its position, and by the
 // twist of the edge that begins there.
-#[derive(Drop)]
+#[derive(Clone, Copy)]
 pub struct BendNode {
     pub g0: Vec3,
     pub g1: Vec3,
@@ -23,7 +23,7 @@ pub struct BendNode {
 }
 
 // The blocks of one vertex with each of the three.
-#[derive(Drop)]
+#[derive(Clone, Copy)]
 pub struct BendRow {
     pub b0: Mat4,
     pub b1: Mat4,
@@ -31,7 +31,7 @@ pub struct BendRow {
 }
 
 // Energy w, its gradient at each vertex (position and twist), and the nine blocks by rows.
-#[derive(Drop)]
+#[derive(Clone, Copy)]
 pub struct Bend {
     pub w: f64,
     pub dw0: Vec4,
@@ -43,13 +43,14 @@ pub struct Bend {
 }
 
 // The products of position and twist, for each vertex with one twist.
-#[derive(Drop)]
+#[derive(Clone, Copy)]
 pub struct Couplings {
     pub v0: Vec3,
     pub v1: Vec3,
     pub v2: Vec3,
 }
 
+#[tactic(auto, unfolding(crate::specs::Bend::entrywise))]
 fn entrywise(a: Vec3, b: Vec3) -> Vec3
     ensures { result ≡ entrywise a b }
 {
@@ -61,6 +62,7 @@ fn entrywise(a: Vec3, b: Vec3) -> Vec3
 }
 
 // The three gradients of n, each times an entry of s.
+#[tactic(auto, unfolding(crate::specs::Bend::weighted_sum))]
 fn weighted_sum(n: BendNode, s: Vec3) -> Vec3
     ensures { result ≡ weighted_sum n s }
 {
@@ -74,6 +76,7 @@ fn weighted_sum(n: BendNode, s: Vec3) -> Vec3
     )
 }
 
+#[tactic(auto, unfolding(crate::specs::Bend::bend_node0))]
 fn bend_node0(d: DarbouxGradient) -> BendNode
     ensures { result ≡ bend_node0 d }
 {
@@ -95,6 +98,7 @@ fn bend_node0(d: DarbouxGradient) -> BendNode
     }
 }
 
+#[tactic(auto, unfolding(crate::specs::Bend::bend_node1))]
 fn bend_node1(d: DarbouxGradient) -> BendNode
     ensures { result ≡ bend_node1 d }
 {
@@ -117,6 +121,7 @@ fn bend_node1(d: DarbouxGradient) -> BendNode
 }
 
 // No edge begins at the last vertex.
+#[tactic(auto, unfolding(crate::specs::Bend::bend_node2))]
 fn bend_node2(d: DarbouxGradient) -> BendNode
     ensures { result ≡ bend_node2 d }
 {
@@ -139,6 +144,7 @@ fn bend_node2(d: DarbouxGradient) -> BendNode
 }
 
 // The gradient at a vertex where an edge begins.
+#[tactic(auto, unfolding(crate::specs::Bend::bend_gradient))]
 fn bend_gradient(n: BendNode, kr: Vec3) -> Vec4
     ensures { result ≡ bend_gradient n kr }
 {
@@ -147,6 +153,7 @@ fn bend_gradient(n: BendNode, kr: Vec3) -> Vec4
 }
 
 // The products of the position gradients of two vertices.
+#[tactic(auto, unfolding(crate::specs::Bend::block_sum))]
 fn block_sum(k: Vec3, a: BendNode, b: BendNode) -> Mat3
     ensures { result ≡ block_sum k a b }
 {
@@ -164,6 +171,7 @@ fn block_sum(k: Vec3, a: BendNode, b: BendNode) -> Mat3
 }
 
 // The block m with the last column, the last row and the number at place 15 set.
+#[tactic(auto, unfolding(crate::specs::Bend::with_coupling, vectors::specs::Vec4::vec4_from_vec3))]
 fn with_coupling(m: Mat4, column: Vec3, row: Vec3, w: f64) -> Mat4
     ensures { result ≡ with_coupling m column row w }
 {
@@ -195,6 +203,7 @@ fn with_coupling(m: Mat4, column: Vec3, row: Vec3, w: f64) -> Mat4
     }
 }
 
+#[tactic(auto, unfolding(crate::specs::Bend::bend_block))]
 fn bend_block(k: Vec3, a: BendNode, b: BendNode, column: Vec3, row: Vec3, w: f64) -> Mat4
     ensures { result ≡ bend_block k a b column row w }
 {
@@ -207,6 +216,7 @@ fn bend_block(k: Vec3, a: BendNode, b: BendNode, column: Vec3, row: Vec3, w: f64
 }
 
 // The three vertices' positions with the twist whose gradient, times the stiffnesses, is kt.
+#[tactic(auto, unfolding(crate::specs::Bend::coupled_of))]
 fn coupled(n0: BendNode, n1: BendNode, n2: BendNode, kt: Vec3) -> Couplings
     ensures { result ≡ coupled_of n0 n1 n2 kt }
 {
@@ -218,6 +228,7 @@ fn coupled(n0: BendNode, n1: BendNode, n2: BendNode, kt: Vec3) -> Couplings
 }
 
 // kt0 and kt1 are the twists' gradients times the stiffnesses, v and u the couplings with each.
+#[tactic(auto, unfolding(crate::specs::Bend::bend_row0))]
 fn bend_row0(
     k: Vec3,
     n0: BendNode,
@@ -247,6 +258,7 @@ fn bend_row0(
     }
 }
 
+#[tactic(auto, unfolding(crate::specs::Bend::bend_row1))]
 fn bend_row1(
     k: Vec3,
     n0: BendNode,
@@ -276,6 +288,7 @@ fn bend_row1(
     }
 }
 
+#[tactic(auto, unfolding(crate::specs::Bend::bend_row2))]
 fn bend_row2(
     k: Vec3,
     n0: BendNode,
@@ -301,6 +314,7 @@ fn bend_row2(
 }
 
 // Two neighbouring edges are given by their frames and lengths; darboux0 is the vector at rest.
+#[tactic(auto, unfolding(crate::specs::Bend::approx_hessian_of, crate::specs::Bend::bend_energy, crate::specs::Square::square, crate::specs::Bend::entrywise, vectors::specs::Vec3::vec3_dot))]
 pub fn wdwdwdw_darboux_rod_hair_approx_hessian(
     ea: EdgeFrame,
     eb: EdgeFrame,

@@ -7,7 +7,7 @@ use vectors::{angle, rotation, vec3};
 
 // The new x axis, and 1 and the cosine of the angle by which the edge turned. Where that is near 0
 // the edge has turned back on itself, and the axis means nothing.
-#[derive(Drop)]
+#[derive(Clone, Copy)]
 pub struct TurnedFrame {
     pub x: Vec3,
     pub one_plus_cosine: f64,
@@ -15,6 +15,7 @@ pub struct TurnedFrame {
 
 // The edge z0 becomes z0 + dz, and its frame, whose x axis is ux0, twists by dtheta. The twist comes
 // first, then the least turn from the old edge to the new one.
+#[tactic(auto, unfolding(crate::specs::Turned::updated_rod_frame))]
 pub fn updated_rod_frame(ux0: Vec3, z0: Vec3, dz: Vec3, dtheta: f64) -> TurnedFrame
     ensures { result ≡ updated_rod_frame ux0 z0 dz dtheta }
 {
