@@ -21,7 +21,7 @@ PAIR = re.compile(r"\blet\s+\(([^()]*)\)\s*=")
 BINDER = re.compile(r"[({]([^(){}:]+?)\s:\s")
 LAMBDA = re.compile(r"λ\s+([^.()]*?)\.(?=\s)")
 CASE = re.compile(r"[|\[]\s*([^|\[\]↦]*?)\s*↦")
-USE = re.compile(r"^\s*use\s+(\S+?)(?:\.\{([^}]*)\})?(?:\s+as\s+(\S+))?\s*$", re.M)
+USE = re.compile(r"^\s*(?:pub )?use\s+(\S+?)(?:\.\{([^}]*)\})?(?:\s+as\s+(\S+))?\s*$", re.M)
 MADE = re.compile(rf"^\s*(?:(?:pub|abbrev)\s+)*({WORD}) :(?: \{{[^}}]*\}} →)? (?:tie|lts|own|goal|kinds|packed|value)\.", re.M)
 CRATES = ("roots", "vectors", "elements", "matrix", "bench", "bench_c", "examples", "replay")
 
@@ -179,7 +179,7 @@ def turn_antt(text, own, kept=frozenset()):
     out = []
     for line in text.split("\n"):
         code, comment = code_of(line)
-        use = re.match(r"\s*use\s+(\S+?)\.\{", code)
+        use = re.match(r"\s*(?:pub )?use\s+(\S+?)\.\{", code)
         if re.match(r"\s*(pub )?use\b", code):
             mine = re.match(r"\s*(?:pub )?use\s+Rattle\.(\w+)\.(specs|proofs)", code)
             if mine and mine[1] in CRATES and ".specs.declared" not in code and use:

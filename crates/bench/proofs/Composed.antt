@@ -54,17 +54,17 @@ module _ (t : Strand) (pick : Pick) (time : Time) where
       abbrev drape_on : List Float
       drape_on = drape_after time t.count t.pins t.drape (update_solution_hair t.count t.pins (staged_shape t.count v) o.left.u)
 
-      abbrev rows_on_lem : List Row
-      rows_on_lem = finish_rows t.count t.pins (staged_shape t.count v) o drape_on
+      abbrev rows_on : List Row
+      rows_on = finish_rows t.count t.pins (staged_shape t.count v) o drape_on
 
-      rows_on_lem : first (update_of t pick time).rows ≡ first rows_on_lem
+      rows_on_lem : first (update_of t pick time).rows ≡ first rows_on
       unfolding update_of
       rows_on_lem = first_behind (begin_rows t.count begun_of) _ (begin_rows_lem t.count begun_of) (sym b.number ∙ z) ∙ rw (q, b.system_is z, shape_kept w v a t.count, b.shape_is)
 
-      pub report_on : report_by (first rows_on_lem) e o.ratio o.count ≡ step_answer (update_of t pick time)
+      pub report_on : report_by (first rows_on) e o.ratio o.count ≡ step_answer (update_of t pick time)
       unfolding update_of
       report_on = rw (rows_on_lem, q, b.energy_is z, b.system_is z)
 
-      pub drape_on_lem : drape_by (first rows_on_lem) t.drape drape_on ≡ step_drape t.drape (update_of t pick time)
+      pub drape_on_lem : drape_by (first rows_on) t.drape drape_on ≡ step_drape t.drape (update_of t pick time)
       unfolding update_of
       drape_on_lem = rw (rows_on_lem, q, b.system_is z, shape_kept w v a t.count, b.shape_is)

@@ -76,8 +76,8 @@ module _ (r : Record) (rest drape : List Float) (pins : List ℕ) (s kind : ℕ)
   -- a kind below 2 is of the rest, another of the drape
   pub looks_rest : Looks → kind < 2 → (k : ℕ) → k ≡ rest_part * s + vector_part * kind → handed (part rest k (k + 3 * n - k)) ≡ answer_of (call s (look kind)) (bench_of r rest drape pins)
   unfolding shown_of strand_of
-  looks_rest p h k e = rw (add-sub_cancel_left k (3 * n)) (ap handed (sym (rw (lt-ltb kind 2 h) (part_part nan rest (rest_part * s) rest_part (vector_part * kind) (3 * n) k e (omega (arith, p.count)) (omega (arith, p.rest-long, p.seat))))) ∙ p.is)
+  looks_rest p h k e = rw (add-sub_cancel_left k (3 * n)) (ap handed (sym (rw (lt-ltb kind 2 h) (part_part nan rest (rest_part * s) rest_part (vector_part * kind) (3 * n) k e (omega (arith, p.count)) (omega (arith, p.rest_long, p.seat))))) ∙ p.is)
 
   pub looks_drape : Looks → 2 ≤ kind → (k : ℕ) → k ≡ drape_part * s + vector_part * (kind - 2) → handed (part drape k (k + 3 * n - k)) ≡ answer_of (call s (look kind)) (bench_of r rest drape pins)
   unfolding shown_of strand_of
-  looks_drape p h k e = rw (add-sub_cancel_left k (3 * n)) (ap handed (sym (rw (le-ltb kind 2 h) (part_part nan drape (drape_part * s) drape_part (vector_part * (kind - 2)) (3 * n) k e (omega (arith, p.count, p.below)) (omega (arith, p.drape-long, p.seat))))) ∙ p.is)
+  looks_drape p h k e = rw (add-sub_cancel_left k (3 * n)) (ap handed (sym (rw (le-ltb kind 2 h) (part_part nan drape (drape_part * s) drape_part (vector_part * (kind - 2)) (3 * n) k e (omega (arith, p.count, p.below)) (omega (arith, p.drape_long, p.seat))))) ∙ p.is)

@@ -21,7 +21,7 @@ use Rattle.matrix.proofs.RowLaws.{Stored3}
 use Rattle.matrix.proofs.Shapes.{vec3_at_lem}
 use Rattle.matrix.proofs.Products.{row_at_lem}
 use Rattle.matrix.proofs.Every.{every_more}
-use Rattle.bench.specs.Update.{edge_at, edge_change, turn_at_lem, is_turned, turn_fits, turns_fit, turned_frames, moved_at, update_solution_hair}
+use Rattle.bench.specs.Update.{edge_at, edge_change, turn_at, is_turned, turn_fits, turns_fit, turned_frames, moved_at, update_solution_hair}
 use Rattle.bench.proofs.EdgeLaws.{own_vector, others_stay, last_stays}
 
 -- ---- one edge
@@ -30,8 +30,8 @@ shape_at w xyz framex n = shape (rows3 w xyz n) (rows3 w framex n)
 
 pub turn_at_lem : (w : List Float) (xyz framex u n i : ℕ) {z x : Vec3} {p q : Vec4} {r : TurnedFrame} → i + 1 < n → z ≡ edge_at (rows3 w xyz n) i → x ≡ row3 w (framex + 3 * i) → p ≡ row4 w (u + 4 * i) → q ≡ row4 w (u + 4 * i + 4)
     → r ≡ updated_rod_frame x z (edge_change p q) (neg p.w)
-    → r ≡ turn_at_lem (shape_at w xyz framex n) (rows4 w u n) i
-unfolding turn_at_lem
+    → r ≡ turn_at (shape_at w xyz framex n) (rows4 w u n) i
+unfolding turn_at
 turn_at_lem w xyz framex u n i h e f a b g =
     rw (
       g,
@@ -59,15 +59,15 @@ module _ (n : ℕ) (pins : List ℕ) (i : ℕ) where
 
 -- vertex i's frame after the turn, from the shape s and the solution u
 abbrev pub frame_after : ℕ → List ℕ → Shape → List Vec4 → ℕ → Vec3
-frame_after n pins s u i = cond (is_turned n pins i) (turn_at_lem s u i).x (vec3_at s.frames i)
+frame_after n pins s u i = cond (is_turned n pins i) (turn_at s u i).x (vec3_at s.frames i)
 
 pub frame_stays : (w : List Float) (xyz framex u n : ℕ) (pins : List ℕ) (i : ℕ) → i < n → framex + 3 * n ≤ length w → is_turned n pins i ≡ false → w ≡ put w (framex + 3 * i) (numbers3 (frame_after n pins (shape_at w xyz framex n) (rows4 w u n) i))
 frame_stays w xyz framex u n pins i h room e = rw (e, ← vec3_at_lem w framex n i (framex + 3 * i) h refl) (sym (put_row three w (framex + 3 * i) (omega arith)))
 
 -- ---- w is the area at the start, v when the edges before i are turned
 module _ (w v : List Float) (xyz framex u n : ℕ) (pins : List ℕ) (i : ℕ) (s : Stored3 w v framex (frame_after n pins (shape_at w xyz framex n) (rows4 w u n)) i) where
-  turn_same : i < n → Apart framex (3 * n) xyz (3 * n) → Apart framex (3 * n) u (4 * n) → turn_at_lem (shape_at v xyz framex n) (rows4 v u n) i ≡ turn_at_lem (shape_at w xyz framex n) (rows4 w u n) i
-  unfolding turn_at_lem
+  turn_same : i < n → Apart framex (3 * n) xyz (3 * n) → Apart framex (3 * n) u (4 * n) → turn_at (shape_at v xyz framex n) (rows4 v u n) i ≡ turn_at (shape_at w xyz framex n) (rows4 w u n) i
+  unfolding turn_at
   turn_same h p q = rw (others_stay s n xyz (omega arith) p, own_vector s n h, rows_unstored_as four s u n (λ j a b c d. q j c (omega arith) a b))
 
   pub turns_more : {fit fits : Bool} → i + 1 < n → Apart framex (3 * n) xyz (3 * n) → Apart framex (3 * n) u (4 * n)

@@ -44,15 +44,15 @@ abbrev pub edge_change : Vec4 → Vec4 → Vec3
 edge_change a b = vec3 (a.x ⊖ b.x) (a.y ⊖ b.y) (a.z ⊖ b.z)
 
 -- lines 849 to 861: the frame of the edge from vertex i, turned with the edge, from the positions as they were
-unfoldable pub turn_at_lem : Shape → List Vec4 → ℕ → TurnedFrame
-turn_at_lem s u i = updated_rod_frame (vec3_at s.frames i) (edge_at s.positions i) (edge_change (row_at u i) (row_at u (i + 1))) (neg (row_at u i).w)
+unfoldable pub turn_at : Shape → List Vec4 → ℕ → TurnedFrame
+turn_at s u i = updated_rod_frame (vec3_at s.frames i) (edge_at s.positions i) (edge_change (row_at u i) (row_at u (i + 1))) (neg (row_at u i).w)
 
 -- lines 845 to 848: an edge whose twist is not pinned is turned
 unfoldable pub is_turned : ℕ → List ℕ → ℕ → Bool
 is_turned n pins i = has_edge n i && eqb (get_or pins (4 * i + 3) 0) 0
 
 unfoldable pub turned_frames : ℕ → List ℕ → Shape → List Vec4 → List Vec3
-turned_frames n pins s u = table n (λ i. cond (is_turned n pins i) (turn_at_lem s u i).x (vec3_at s.frames i))
+turned_frames n pins s u = table n (λ i. cond (is_turned n pins i) (turn_at s u i).x (vec3_at s.frames i))
 
 -- lines 868 to 875: an unpinned position moves against the solution
 unfoldable pub moved_at : List ℕ → List Vec3 → List Vec4 → ℕ → Vec3
@@ -71,7 +71,7 @@ least_turn = of_bits binary64 0x3eb0_0000_0000_0000
 
 -- "some turned edge has 1+c < 2^-20" is declined with 10; NaN is not below it
 abbrev pub turn_fits : ℕ → List ℕ → Shape → List Vec4 → ℕ → Bool
-turn_fits n pins s u i = not (is_turned n pins i && lt (turn_at_lem s u i).one_plus_cosine least_turn)
+turn_fits n pins s u i = not (is_turned n pins i && lt (turn_at s u i).one_plus_cosine least_turn)
 
 unfoldable pub turns_fit : ℕ → List ℕ → Shape → List Vec4 → Bool
 turns_fit n pins s u = every (turn_fits n pins s u) (table (n - 1) (λ i. i))

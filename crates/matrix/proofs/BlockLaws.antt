@@ -15,7 +15,7 @@ use Rattle.matrix.specs.Parts.{put, table}
 use Rattle.matrix.specs.Rows.{zero_row, zero_block, row4, rows4, block16, blocks16, numbers4, flat4, numbers16}
 use Rattle.matrix.specs.Layout.{row_length, column_at, column_place, block_place, Near}
 use Rattle.matrix.specs.SparseSquare.{matrix_rows}
-use Rattle.matrix.specs.Blocks.{matrix_of, block_in_lem}
+use Rattle.matrix.specs.Blocks.{matrix_of, block_in}
 use Rattle.matrix.specs.Area.{place_r, work_numbers, after_vectors}
 use Rattle.matrix.specs.System.{system_at}
 use Rattle.matrix.specs.HairSystem.{same_pair}
@@ -31,8 +31,8 @@ pub matrix_ext : (n : ℕ) (f g : ℕ → ℕ → Mat4) → ((i j : ℕ) → Nea
 unfolding matrix_of
 matrix_ext n f g h = table_ext n _ _ (λ i a. table_ext (row_length n i) _ _ (λ c b. h i (column_at n i c) (column_near n i c a b)))
 
-pub block_in_lem : (n : ℕ) (f : ℕ → ℕ → Mat4) {i j : ℕ} → Near n i j → block_in_lem n (matrix_of n f) i j ≡ f i j
-unfolding block_in_lem matrix_of
+pub block_in_lem : (n : ℕ) (f : ℕ → ℕ → Mat4) {i j : ℕ} → Near n i j → block_in n (matrix_of n f) i j ≡ f i j
+unfolding block_in matrix_of
 block_in_lem n f {i} {j} near =
     ap (λ (l : List Mat4). get_or l (column_place n i j) zero_block) (get_d_table n (λ k. table (row_length n k) (λ c. f k (column_at n k c))) i [] near.row)
     ∙ get_d_table (row_length n i) (λ c. f i (column_at n i c)) (column_place n i j) zero_block (place_within near)

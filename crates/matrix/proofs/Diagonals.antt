@@ -13,7 +13,7 @@ use Rattle.matrix.specs.Parts.{put}
 use Rattle.matrix.specs.Rows.{row4, rows4, numbers16}
 use Rattle.matrix.specs.Layout.{block_place, Near}
 use Rattle.matrix.specs.SparseSquare.{matrix_rows}
-use Rattle.matrix.specs.Blocks.{block_in_lem}
+use Rattle.matrix.specs.Blocks.{block_in}
 use Rattle.matrix.specs.Area.{place_r, work_numbers, after_vectors}
 use Rattle.matrix.specs.System.{system_at, changed_if}
 use Rattle.matrix.specs.HairSystem.{same_pair, diagonal_plus, with_diagonal}
@@ -81,11 +81,11 @@ module _ {n : ℕ} {w : List Float} {c : Float} {k : ℕ} {v : List Float} (g : 
 
 pub loaded_all : {n : ℕ} {w : List Float} {c : Float} {k : ℕ} {v : List Float} → Loaded n w c k v → k ≡ n → system_at n v ≡ with_diagonal n c (system_at n w)
 unfolding system_at with_diagonal rows4
-loaded_all {n} {w} {c} {k} {v} g e = holds_system (holds_ext (λ i. row4 w (place_r + 4 * i)) (λ i j. changed_if (eqb i j) (diagonal_plus c) (block_in_lem n (matrix_rows w n) i j)) g.holds (λ i l. refl) all)
+loaded_all {n} {w} {c} {k} {v} g e = holds_system (holds_ext (λ i. row4 w (place_r + 4 * i)) (λ i j. changed_if (eqb i j) (diagonal_plus c) (block_in n (matrix_rows w n) i j)) g.holds (λ i l. refl) all)
   where
     and_true : (t : Bool) → (t && true) ≡ t
     and_true true = refl
     and_true false = refl
 
-    all : (i j : ℕ) → Near n i j → with_first n w c k i j ≡ changed_if (eqb i j) (diagonal_plus c) (block_in_lem n (matrix_rows w n) i j)
+    all : (i j : ℕ) → Near n i j → with_first n w c k i j ≡ changed_if (eqb i j) (diagonal_plus c) (block_in n (matrix_rows w n) i j)
     all i j near = rw (matrix_at n w, block_in_lem n (block_at n w) near, lt-ltb i k (rw e near.row), and_true (eqb i j))

@@ -13,11 +13,11 @@ use Rattle.matrix.specs.Parts.{put}
 use Rattle.matrix.specs.Rows.{rows4, flat4, numbers16}
 use Rattle.matrix.specs.Layout.{before, after, block_place, Near}
 use Rattle.matrix.specs.SparseSquare.{matrix_rows}
-use Rattle.matrix.specs.Blocks.{matrix_of, block_in_lem}
+use Rattle.matrix.specs.Blocks.{matrix_of, block_in}
 use Rattle.matrix.specs.Area.{place_r, work_numbers, after_vectors}
 use Rattle.matrix.specs.System.{System, system_at, changed_if}
 use Rattle.matrix.specs.HairSystem.{same_pair}
-use Rattle.matrix.specs.Pins.{block_fixed_lem, pinned_columns, set_fix_dof_to_rhs_vector, set_fixed_bc}
+use Rattle.matrix.specs.Pins.{block_fixed, pinned_columns, set_fix_dof_to_rhs_vector, set_fixed_bc}
 use Rattle.matrix.specs.Fixed.{fixed_where, with_fixed, with_pins}
 use Rattle.matrix.proofs.Parts.{length_table}
 use Rattle.matrix.proofs.RowsPut.{RowsPut, rows_put, matrix_kept, after_kept}
@@ -29,14 +29,14 @@ use Rattle.matrix.proofs.SystemLaws.{pair_true, block_changed, block_changed_aft
 
 -- ---- one block
 abbrev pinned : List ℕ → ℕ → ℕ → Mat4 → Mat4
-pinned pins p q = block_fixed_lem pins p q (pinned_columns (eqb p q))
+pinned pins p q = block_fixed pins p q (pinned_columns (eqb p q))
 
 module _ (n p q : ℕ) (pins : List ℕ) (w v : List Float) (h : (2 ≤ n) × (n ≤ 32)) (long : length w ≡ work_numbers) (near : Near n p q) (e : v ≡ put w (16 * block_place n p q) (numbers16 (pinned pins p q (block_at n w p q)))) where
   pub block_fixed_lem : system_at n v ≡ fixed_where n pins (same_pair p q) (system_at n w)
   unfolding fixed_where changed_if
   block_fixed_lem = block_changed n p q (pinned pins p q) w v h long near e ∙ ap (λ (r : List (List Mat4)). record { gradient = (system_at n w).gradient; rows = r }) (matrix_ext n _ _ each)
     where
-      each : (i j : ℕ) → Near n i j → changed_if (same_pair p q i j) (pinned pins p q) (block_in_lem n (system_at n w).rows i j) ≡ changed_if (same_pair p q i j) (pinned pins i j) (block_in_lem n (system_at n w).rows i j)
+      each : (i j : ℕ) → Near n i j → changed_if (same_pair p q i j) (pinned pins p q) (block_in n (system_at n w).rows i j) ≡ changed_if (same_pair p q i j) (pinned pins i j) (block_in n (system_at n w).rows i j)
       each i j mear = by_test (same_pair p q i j) (λ t. let d = pair_true p q i j t in rw (d.0, d.1)) (λ t. rw t)
 
   pub block_fixed_after : after_vectors v ≡ after_vectors w
@@ -53,21 +53,21 @@ module _ (n : ℕ) (pins : List ℕ) where
   unfolding system_at fixed_where changed_if
   fixed_none w t h = ap (λ (r : List (List Mat4)). record { gradient = rows4 w place_r n; rows = r }) (matrix_at n w ∙ matrix_ext n _ _ each)
     where
-      each : (i j : ℕ) → Near n i j → block_at n w i j ≡ changed_if (t i j) (pinned pins i j) (block_in_lem n (matrix_rows w n) i j)
+      each : (i j : ℕ) → Near n i j → block_at n w i j ≡ changed_if (t i j) (pinned pins i j) (block_in n (matrix_rows w n) i j)
       each i j near = rw (h i j near, matrix_at n w) (sym (block_in_lem n (block_at n w) near))
 
   pub fixed_more : (t u v : ℕ → ℕ → Bool) (s : System) → ((i j : ℕ) → Near n i j → Adds (t i j) (u i j) (v i j)) → fixed_where n pins t (fixed_where n pins u s) ≡ fixed_where n pins v s
   unfolding fixed_where changed_if
   fixed_more t u v s h = ap (λ (r : List (List Mat4)). record { gradient = s.gradient; rows = r }) (matrix_ext n _ _ each)
     where
-      each : (i j : ℕ) → Near n i j → changed_if (t i j) (pinned pins i j) (block_in_lem n (matrix_of n (λ p q. changed_if (u p q) (pinned pins p q) (block_in_lem n s.rows p q))) i j) ≡ changed_if (v i j) (pinned pins i j) (block_in_lem n s.rows i j)
+      each : (i j : ℕ) → Near n i j → changed_if (t i j) (pinned pins i j) (block_in n (matrix_of n (λ p q. changed_if (u p q) (pinned pins p q) (block_in n s.rows p q))) i j) ≡ changed_if (v i j) (pinned pins i j) (block_in n s.rows i j)
       each i j near =
-          rw (block_in_lem n (λ p q. changed_if (u p q) (pinned pins p q) (block_in_lem n s.rows p q)) near)
+          rw (block_in_lem n (λ p q. changed_if (u p q) (pinned pins p q) (block_in n s.rows p q)) near)
           (by_test (u i j) (λ a. let d = (h i j near).old a in rw (a, d.0, d.1)) (λ a. rw (a, (h i j near).new a)))
 
   pub fixed_ext : (t u : ℕ → ℕ → Bool) (s : System) → ((i j : ℕ) → Near n i j → t i j ≡ u i j) → fixed_where n pins t s ≡ fixed_where n pins u s
   unfolding fixed_where
-  fixed_ext t u s h = ap (λ (r : List (List Mat4)). record { gradient = s.gradient; rows = r }) (matrix_ext n _ _ (λ i j near. ap (λ (b : Bool). changed_if b (pinned pins i j) (block_in_lem n s.rows i j)) (h i j near)))
+  fixed_ext t u s h = ap (λ (r : List (List Mat4)). record { gradient = s.gradient; rows = r }) (matrix_ext n _ _ (λ i j near. ap (λ (b : Bool). changed_if b (pinned pins i j) (block_in n s.rows i j)) (h i j near)))
 
   pub fixed_all : (t : ℕ → ℕ → Bool) (s : System) → ((i j : ℕ) → Near n i j → t i j ≡ true) → fixed_where n pins t s ≡ with_fixed n pins s
   unfolding fixed_where changed_if with_fixed set_fixed_bc

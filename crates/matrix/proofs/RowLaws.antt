@@ -16,7 +16,7 @@ use Rattle.matrix.specs.SliceOfArray.{zero_rows, dot_from}
 use Rattle.matrix.proofs.Parts.{length_table, put_append}
 use Rattle.matrix.proofs.Widths.{length_flat, StoredAs, PutAs, put_as, rows_apart, flat_rows}
 pub use Rattle.matrix.proofs.RowWidths.{three, four}
-pub use Rattle.matrix.proofs.Widths.{stored-none, stored_more, stored_same, unstored, stored-all}
+pub use Rattle.matrix.proofs.Widths.{stored_none, stored_more, stored_same, unstored, stored_all}
 
 -- ---- vectors of three
 abbrev pub Stored3 : List Float → List Float → ℕ → (ℕ → Vec3) → ℕ → Type 0

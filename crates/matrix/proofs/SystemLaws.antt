@@ -18,7 +18,7 @@ use Rattle.matrix.specs.Parts.{put, table}
 use Rattle.matrix.specs.Rows.{zero_row, zero_block, row4, rows4, numbers4, numbers16}
 use Rattle.matrix.specs.Layout.{block_place, Near}
 use Rattle.matrix.specs.SparseSquare.{matrix_rows}
-use Rattle.matrix.specs.Blocks.{matrix_of, block_in_lem}
+use Rattle.matrix.specs.Blocks.{matrix_of, block_in}
 use Rattle.matrix.specs.Area.{place_r, work_numbers, after_vectors}
 use Rattle.matrix.specs.System.{System, system_at, changed_if}
 use Rattle.elements.specs.declared.spring3.Stretch.{Stretch}
@@ -39,11 +39,11 @@ pub pair_true : (p q i j : ℕ) → same_pair p q i j ≡ true → (p ≡ i) × 
 pair_true p q i j e = by_test (eqb p i) (λ a. (eqb-true p i a, eqb-true q j (rw a at e))) (λ a. absurd (subst T (sym (rw a at e)) tt))
 
 module _ (n p q : ℕ) (f : Mat4 → Mat4) (w v : List Float) (h : (2 ≤ n) × (n ≤ 32)) (long : length w ≡ work_numbers) (near : Near n p q) (e : v ≡ put w (16 * block_place n p q) (numbers16 (f (block_at n w p q)))) where
-  pub block_changed : system_at n v ≡ record { gradient = (system_at n w).gradient; rows = matrix_of n (λ i j. changed_if (same_pair p q i j) f (block_in_lem n (system_at n w).rows i j)) }
+  pub block_changed : system_at n v ≡ record { gradient = (system_at n w).gradient; rows = matrix_of n (λ i j. changed_if (same_pair p q i j) f (block_in n (system_at n w).rows i j)) }
   unfolding system_at rows4 changed_if
   block_changed = holds_system (holds_ext (λ i. row4 w (place_r + 4 * i)) _ (holds_block n p q (f (block_at n w p q)) w v h long near e (as_held n w)) (λ i l. refl) each)
     where
-      each : (i j : ℕ) → Near n i j → cond (same_pair p q i j) (f (block_at n w p q)) (block_at n w i j) ≡ changed_if (same_pair p q i j) f (block_in_lem n (matrix_rows w n) i j)
+      each : (i j : ℕ) → Near n i j → cond (same_pair p q i j) (f (block_at n w p q)) (block_at n w i j) ≡ changed_if (same_pair p q i j) f (block_in n (matrix_rows w n) i j)
       each i j mear =
           rw (matrix_at n w, block_in_lem n (block_at n w) mear)
           (by_test (same_pair p q i j) (λ t. let d = pair_true p q i j t in rw (t, d.0, d.1)) (λ t. rw t))
@@ -66,7 +66,7 @@ module _ (n p : ℕ) (f : Vec4 → Vec4) (w v : List Float) (h : (2 ≤ n) × (n
 
 -- ---- an element is its parts, one after the other
 abbrev rows_plus : ℕ → AtPair → List (List Mat4) → List (List Mat4)
-rows_plus n b rows = matrix_of n (λ i j. block_plus_if (same_pair b.row b.column i j) (block_in_lem n rows i j) b.block)
+rows_plus n b rows = matrix_of n (λ i j. block_plus_if (same_pair b.row b.column i j) (block_in n rows i j) b.block)
 
 unfoldable fold_rows : ℕ → List (List Mat4) → List AtPair → List (List Mat4)
 fold_rows n rows [] = rows
@@ -99,7 +99,7 @@ unfolding plus_element add_gradients add_blocks fold_gradients fold_rows
 parts_added n s energy v vs b bs =
     rw (
       fold_gradients_lem n (λ i. row_plus_if (eqb v.vertex i) (get_or s.gradient i zero_row) v.value) vs,
-      fold_rows_lem n (λ i j. block_plus_if (same_pair b.row b.column i j) (block_in_lem n s.rows i j) b.block) bs,
+      fold_rows_lem n (λ i j. block_plus_if (same_pair b.row b.column i j) (block_in n s.rows i j) b.block) bs,
     )
 
 -- as the rows of an element's blocks are added
@@ -156,7 +156,7 @@ unfolding plus_element
 element_added n g f e =
     rw (
       table_ext n (λ i. add_gradients (get_or (table n g) i zero_row) e.gradients i) (λ i. add_gradients (g i) e.gradients i) (λ i b. ap (λ (x : Vec4). add_gradients x e.gradients i) (get_d_table n g i zero_row b)),
-      matrix_ext n (λ i j. add_blocks (block_in_lem n (matrix_of n f) i j) e.blocks i j) (λ i j. add_blocks (f i j) e.blocks i j) (λ i j near. ap (λ (m : Mat4). add_blocks m e.blocks i j) (block_in_lem n f near)),
+      matrix_ext n (λ i j. add_blocks (block_in n (matrix_of n f) i j) e.blocks i j) (λ i j. add_blocks (f i j) e.blocks i j) (λ i j near. ap (λ (m : Mat4). add_blocks m e.blocks i j) (block_in_lem n f near)),
     )
 
 elements_added : (n : ℕ) (g : ℕ → Vec4) (f : ℕ → ℕ → Mat4) (es : List Element)

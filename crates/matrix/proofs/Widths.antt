@@ -36,29 +36,29 @@ within i n k h = let e : i + 1 + (n - (i + 1)) ≡ n = omega arith in rw e at (r
 -- ---- rows as numbers
 module _ {A : Type 0} (t : Width A) where
   flat_snoc : (vs : List A) (v : A) → t.flat (vs ++ (v ∷ [])) ≡ t.flat vs ++ t.numbers v
-  flat_snoc [] v = rw (t.flat-cons v [], t.flat-none) (append-nil (t.numbers v))
-  flat_snoc (u ∷ vs) v = rw (t.flat-cons u (vs ++ (v ∷ [])), t.flat-cons u vs, flat_snoc vs v) (sym (append_assoc (t.numbers u) (t.flat vs) (t.numbers v)))
+  flat_snoc [] v = rw (t.flat_cons v [], t.flat_none) (append-nil (t.numbers v))
+  flat_snoc (u ∷ vs) v = rw (t.flat_cons u (vs ++ (v ∷ [])), t.flat_cons u vs, flat_snoc vs v) (sym (append_assoc (t.numbers u) (t.flat vs) (t.numbers v)))
 
   pub length_flat : (vs : List A) → length (t.flat vs) ≡ t.wide * length vs
-  length_flat [] = rw t.flat-none (omega arith)
-  length_flat (v ∷ vs) = rw (t.flat-cons v vs) (length-append (t.numbers v) (t.flat vs) ∙ omega (arith, t.length-numbers v, length_flat vs))
+  length_flat [] = rw t.flat_none (omega arith)
+  length_flat (v ∷ vs) = rw (t.flat_cons v vs) (length-append (t.numbers v) (t.flat vs) ∙ omega (arith, t.length_numbers v, length_flat vs))
 
   pub length_flat_table : (n : ℕ) (f : ℕ → A) → length (t.flat (table n f)) ≡ t.wide * n
   length_flat_table n f = length_flat (table n f) ∙ ap (λ (k : ℕ). t.wide * k) (length_table n f)
 
   flat_row : (d : A) (x : List A) (i k : ℕ) → i < length x → k ≡ t.wide * i → t.row (t.flat x) k ≡ get_or x i d
   flat_row d [] i k h e = absurd (omega arith)
-  flat_row d (v ∷ x) zero k h e = let z : k ≡ 0 = omega arith in rw (z, t.flat-cons v x) (t.row_first v (t.flat x))
+  flat_row d (v ∷ x) zero k h e = let z : k ≡ 0 = omega arith in rw (z, t.flat_cons v x) (t.row_first v (t.flat x))
   flat_row d (v ∷ x) (suc i) k h e =
-      rw (t.flat-cons v x) (t.row_same (t.numbers v ++ t.flat x) (t.flat x) k (t.wide * i) (λ p q a b c. let d : p ≡ length (t.numbers v) + q = omega (arith, t.length-numbers v) in rw d (get_or-append-add (t.numbers v) (t.flat x) q nan)))
+      rw (t.flat_cons v x) (t.row_same (t.numbers v ++ t.flat x) (t.flat x) k (t.wide * i) (λ p q a b c. let d : p ≡ length (t.numbers v) + q = omega (arith, t.length_numbers v) in rw d (get_or-append-add (t.numbers v) (t.flat x) q nan)))
       ∙ flat_row d x i (t.wide * i) (omega arith) refl
 
   -- a row put back where it was
   pub put_row : (l : List Float) (o : ℕ) → o + t.wide ≤ length l → put l o (t.numbers (t.row l o)) ≡ l
-  put_row l o h = rw (t.numbers-row l o h) (put_part l o t.wide)
+  put_row l o h = rw (t.numbers_row l o h) (put_part l o t.wide)
 
   pub row_of : (d : A) (l : List Float) (o n i k : ℕ) → i < n → k ≡ o + t.wide * i → get_or (t.rows l o n) i d ≡ t.row l k
-  row_of d l o n i k h e = rw (t.rows-table l o n, e) (get_d_table n (λ j. t.row l (o + t.wide * j)) i d h)
+  row_of d l o n i k h e = rw (t.rows_table l o n, e) (get_d_table n (λ j. t.row l (o + t.wide * j)) i d h)
 
 -- ---- a loop that stores rows: v is w after i turns
 pub record StoredAs {A : Type 0} (t : Width A) (w v : List Float) (o : ℕ) (f : ℕ → A) (i : ℕ) : Type 0 where
@@ -68,7 +68,7 @@ pub record StoredAs {A : Type 0} (t : Width A) (w v : List Float) (o : ℕ) (f :
 module _ {A : Type 0} {t : Width A} where
   pub stored_none : (w : List Float) (o : ℕ) (f : ℕ → A) → StoredAs t w w o f 0
   unfolding table
-  stored_none w o f = record { is = rw t.flat-none (sym (put_none w o)); long = refl }
+  stored_none w o f = record { is = rw t.flat_none (sym (put_none w o)); long = refl }
 
   pub stored_more : {w v u : List Float} {o : ℕ} {f : ℕ → A} {i : ℕ} {r : A} → StoredAs t w v o f i → u ≡ put v (o + t.wide * i) (t.numbers r) → r ≡ f i → StoredAs t w u o f (i + 1)
   stored_more {w} {v} {u} {o} {f} {i} {r} s e q = record {
@@ -103,7 +103,7 @@ module _ {A : Type 0} (t : Width A) where
   pub put_as : (d : A) (w v : List Float) (o n : ℕ) (x : List A) → v ≡ put w o (t.flat x) → length x ≡ n → o + t.wide * n ≤ length w → PutAs t d w v o n x
   put_as d w v o n x e l room = record {
     stored = record { is = e ∙ ap (λ (y : List A). put w o (t.flat y)) (sym whole); long = rw e (length_put w o (t.flat x)) };
-    there = t.rows-table v o n ∙ table_ext n (λ i. t.row v (o + t.wide * i)) (λ i. get_or x i d) (λ i h. row_there i h ∙ flat_row t d x i (t.wide * i) (omega arith) refl) ∙ whole;
+    there = t.rows_table v o n ∙ table_ext n (λ i. t.row v (o + t.wide * i)) (λ i. get_or x i d) (λ i h. row_there i h ∙ flat_row t d x i (t.wide * i) (omega arith) refl) ∙ whole;
   }
     where
       whole : table n (λ i. get_or x i d) ≡ x
@@ -120,9 +120,9 @@ module _ {A : Type 0} (t : Width A) where
   -- what is read apart from any store
   pub rows_apart : (w : List Float) (o : ℕ) (p : List Float) (k n : ℕ) → Apart o (length p) k (t.wide * n) → t.rows (put w o p) k n ≡ t.rows w k n
   rows_apart w o p k n h =
-      t.rows-table (put w o p) k n
+      t.rows_table (put w o p) k n
       ∙ table_ext n _ _ (λ i b. t.row_same (put w o p) w (k + t.wide * i) (k + t.wide * i) (λ a c x y e. let d : c ≡ a = omega arith in rw d (get_d_outside w o p a nan (λ l m. h a l m (omega arith) (omega (arith, within i n t.wide b))))))
-      ∙ sym (t.rows-table w k n)
+      ∙ sym (t.rows_table w k n)
 
   pub rows_unstored_as : {B : Type 0} {s : Width B} {w v : List Float} {o : ℕ} {f : ℕ → B} {i : ℕ} → StoredAs s w v o f i → (k n : ℕ) → Apart k (t.wide * n) o (s.wide * i) → t.rows v k n ≡ t.rows w k n
   rows_unstored_as {B} {s} {w} {v} {o} {f} {i} p k n h = rw p.is (rows_apart w o (s.flat (table i f)) k n (λ j a b c d. h j c d a (omega (arith, length_flat_table s i f))))
@@ -134,6 +134,6 @@ module _ {A : Type 0} (t : Width A) where
 
   pub flat_rows : (w : List Float) (o n : ℕ) → o + t.wide * n ≤ length w → t.flat (t.rows w o n) ≡ part w o (t.wide * n)
   flat_rows w o n h =
-      rw (t.rows-table w o n)
+      rw (t.rows_table w o n)
       (sym (part_put_same nan w o (t.wide * n) (t.flat (table n (λ i. t.row w (o + t.wide * i)))) (length_flat_table t n (λ i. t.row w (o + t.wide * i))) h)
       ∙ ap (λ (l : List Float). part l o (t.wide * n)) (sym (all_stay w o n h).is))

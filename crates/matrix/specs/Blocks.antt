@@ -10,5 +10,5 @@ unfoldable pub matrix_of : ℕ → (ℕ → ℕ → Mat4) → List (List Mat4)
 matrix_of n f = table n (λ i. table (row_length n i) (λ c. f i (column_at n i c)))
 
 -- The block at row i and column j of a matrix of n rows.
-unfoldable pub block_in_lem : ℕ → List (List Mat4) → ℕ → ℕ → Mat4
-block_in_lem n rows i j = get_or (get_or rows i []) (column_place n i j) zero_block
+unfoldable pub block_in : ℕ → List (List Mat4) → ℕ → ℕ → Mat4
+block_in n rows i j = get_or (get_or rows i []) (column_place n i j) zero_block

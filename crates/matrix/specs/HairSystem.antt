@@ -17,7 +17,7 @@ use Rattle.elements.specs.declared.rod3_darboux.bend.Bend.{Bend}
 use Rattle.matrix.specs.Parts.{table}
 use Rattle.matrix.specs.Rows.{zero_row, zero_block, rows3}
 use Rattle.matrix.specs.Area.{place_positions, place_frames}
-use Rattle.matrix.specs.Blocks.{matrix_of, block_in_lem}
+use Rattle.matrix.specs.Blocks.{matrix_of, block_in}
 use Rattle.matrix.specs.System.{System, changed_if}
 
 -- What an element adds at one vertex, and at one pair of vertices.
@@ -114,7 +114,7 @@ unfoldable pub plus_gradient : ℕ → ℕ → Vec4 → System → System
 plus_gradient n p v s = record { gradient = table n (λ i. row_plus_if (eqb p i) (get_or s.gradient i zero_row) v); rows = s.rows }
 
 unfoldable pub plus_block : ℕ → ℕ → ℕ → Mat4 → System → System
-plus_block n p q m s = record { gradient = s.gradient; rows = matrix_of n (λ i j. block_plus_if (same_pair p q i j) (block_in_lem n s.rows i j) m) }
+plus_block n p q m s = record { gradient = s.gradient; rows = matrix_of n (λ i j. block_plus_if (same_pair p q i j) (block_in n s.rows i j) m) }
 
 -- s and what is added at vertex i, in order; and at row i and column j
 unfoldable pub add_gradients : Vec4 → List AtVertex → ℕ → Vec4
@@ -127,7 +127,7 @@ add_blocks s (b ∷ bs) i j = add_blocks (block_plus_if (same_pair b.row b.colum
 
 -- The system s with one element more.
 unfoldable pub plus_element : ℕ → Element → System → System
-plus_element n e s = record { gradient = table n (λ i. add_gradients (get_or s.gradient i zero_row) e.gradients i); rows = matrix_of n (λ i j. add_blocks (block_in_lem n s.rows i j) e.blocks i j) }
+plus_element n e s = record { gradient = table n (λ i. add_gradients (get_or s.gradient i zero_row) e.gradients i); rows = matrix_of n (λ i j. add_blocks (block_in n s.rows i j) e.blocks i j) }
 
 -- With several more, one after the other.
 unfoldable pub plus_elements : ℕ → List Element → System → System
@@ -162,7 +162,7 @@ diagonal_plus c m =
 
 -- lines 827 to 832 with damping c, and lines 1221 to 1225 with inertia c: c on the three diagonals of every vertex
 unfoldable pub with_diagonal : ℕ → Float → System → System
-with_diagonal n c s = record { gradient = s.gradient; rows = matrix_of n (λ i j. changed_if (eqb i j) (diagonal_plus c) (block_in_lem n s.rows i j)) }
+with_diagonal n c s = record { gradient = s.gradient; rows = matrix_of n (λ i j. changed_if (eqb i j) (diagonal_plus c) (block_in n s.rows i j)) }
 
 -- `wdwddw_hair_system`: all stretch elements upward, then all bend elements; the damping is +0
 module _ (n : ℕ) (rest staged : Shape) (stretch : Float) (bend : Vec3) where

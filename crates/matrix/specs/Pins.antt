@@ -7,7 +7,7 @@ use Rattle.vectors.specs.declared.vec4.Vec4.{Vec4}
 use Rattle.vectors.specs.declared.mat4.Mat4.{Mat4}
 use Rattle.matrix.specs.Parts.{table}
 use Rattle.matrix.specs.Rows.{zero_row, zero_block}
-use Rattle.matrix.specs.Blocks.{matrix_of, block_in_lem}
+use Rattle.matrix.specs.Blocks.{matrix_of, block_in}
 
 -- sparse_square.rs, lines 64 to 67: a number is kept where its pin is 0.
 unfoldable pub unless_fixed : ℕ → Float → Float
@@ -41,8 +41,8 @@ column_fixed zero e v = v
 column_fixed (suc b) e v = e
 
 -- The block m at row i and column j: a pinned row of it is 0, a pinned column is that of e.
-unfoldable pub block_fixed_lem : List ℕ → ℕ → ℕ → Mat4 → Mat4 → Mat4
-block_fixed_lem pins i j e m =
+unfoldable pub block_fixed : List ℕ → ℕ → ℕ → Mat4 → Mat4 → Mat4
+block_fixed pins i j e m =
     mat4
     (column_fixed (get_or pins (4 * j) 0) e.c0 (row_unless_fixed pins (4 * i) m.c0))
     (column_fixed (get_or pins (4 * j + 1) 0) e.c1 (row_unless_fixed pins (4 * i) m.c1))
@@ -51,4 +51,4 @@ block_fixed_lem pins i j e m =
 
 -- `set_fixed_bc` with 1, lines 3 to 55
 unfoldable pub set_fixed_bc : ℕ → List ℕ → List (List Mat4) → List (List Mat4)
-set_fixed_bc n pins rows = matrix_of n (λ i j. block_fixed_lem pins i j (pinned_columns (eqb i j)) (block_in_lem n rows i j))
+set_fixed_bc n pins rows = matrix_of n (λ i j. block_fixed pins i j (pinned_columns (eqb i j)) (block_in n rows i j))

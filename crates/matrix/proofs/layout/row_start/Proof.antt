@@ -22,7 +22,7 @@ returns : tie.Need-returns
 returns c = sym ((placed c.before.before.args.n c.before.before.args.i (search rules) (search rules)).first (omega arith) (omega arith))
 
 returns-2 : tie.Need-returns-2
-returns-2 c = sym ((placed c.before.before.args.n c.before.before.args.i (search rules) (search rules)).first-last (omega arith) (omega arith))
+returns-2 c = sym ((placed c.before.before.args.n c.before.before.args.i (search rules) (search rules)).first_last (omega arith) (omega arith))
 
 add-if3 : tie.Need-overflow-add-if3
 add-if3 c = search rules

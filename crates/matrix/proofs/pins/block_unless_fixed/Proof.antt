@@ -1,6 +1,6 @@
 -- What the calls promise, put together, is the definition.
 use borrow.Author.Rules.{rules}
-use Rattle.matrix.specs.Pins.{block_fixed_lem}
+use Rattle.matrix.specs.Pins.{block_fixed}
 use Rattle.matrix.proofs.pins.block_unless_fixed.Statement.{statement}
 use Rattle.matrix.proofs.pins.block_unless_fixed.Tie as tie
 
@@ -32,7 +32,7 @@ column-unless-fixed-requires-4 : tie.Need-column-unless-fixed-requires-4
 column-unless-fixed-requires-4 c κs = search rules
 
 returns : tie.Need-returns
-unfolding block_fixed_lem
+unfolding block_fixed
 returns c = simp (c.column-unless-fixed4.ensures, c.before.column-unless-fixed3.ensures, c.before.before.column-unless-fixed2.ensures, c.before.before.before.column-unless-fixed.ensures)
 
 pub block_unless_fixed_spec : {M : Type 1} → statement M
