@@ -33,7 +33,9 @@ products_plus : (alpha : Float) {a b : Vec4} (ms : List Mat4) (xs : List Vec4) �
 unfolding add_products
 products_plus alpha [] xs h = h
 products_plus alpha (m ∷ ms) [] h = h
-products_plus alpha (m ∷ ms) (x ∷ xs) h = products_plus alpha ms xs (rows_plus_lem (vec4_scale (mat4_times_vec4 m x) alpha) h)
+products_plus alpha {a = a} {b = b} (m ∷ ms) (x ∷ xs) h =
+    let p = vec4_scale (mat4_times_vec4 m x) alpha in
+    products_plus alpha {a = vec4_add a p} {b = vec4_add b p} ms xs (rows_plus_lem p h)
 
 row_turned : (a b : Vec4) → vec4_add a b ≡ vec4_add b a
 unfolding vec4_add

@@ -19,6 +19,7 @@ pub struct EdgeFrames {
 }
 
 // The length of the edge from vertex i, of the positions at p.
+#[tactic(auto, unfolding(crate::specs::Edges::length_at, vectors::specs::Edge::edge_length, vectors::specs::Edge::measured_of, vectors::specs::Vec3::vec3_norm))]
 fn length_at(xyz: &[f64], p: usize, n: usize, i: usize) -> f64
     requires i_bound { i + 1 < n }
     requires n_in_bounds { p + 3 * n ≤ length xyz.now }
@@ -46,6 +47,7 @@ pub fn edge_lengths(xyz: &[f64], p: usize, n: usize) -> [f64; 32]
 }
 
 // The edge from vertex i, of the positions at p and the x axes at f; its length is known.
+#[tactic(auto, unfolding(crate::specs::Edges::frame_at, crate::specs::Edges::length_at))]
 fn frame_at(
     xyz: &[f64],
     p: usize,
@@ -69,6 +71,7 @@ fn frame_at(
 
 // The edge from vertex i in both shapes, by its lengths there; `rest` and `axes` have the positions
 // and x axes at rest.
+#[tactic(auto, unfolding(crate::specs::HairSystem::staged_shape, crate::specs::Edges::frames_at))]
 pub fn frames_at(
     work: &[f64],
     rest: &[f64],

@@ -11,6 +11,7 @@ pub fn count_before(i: usize) -> usize
 }
 
 // How many of the two vertices after vertex i there are, of n vertices.
+#[tactic(auto, unfolding(crate::specs::Layout::after))]
 pub fn count_after(n: usize, i: usize) -> usize
     requires { i < n }
     ensures { result ≡ after n i }
@@ -19,6 +20,7 @@ pub fn count_after(n: usize, i: usize) -> usize
 }
 
 // How many blocks row i has.
+#[tactic(auto, unfolding(crate::specs::Layout::row_length))]
 pub fn row_length(n: usize, i: usize) -> usize
     requires { i < n }
     ensures { result ≡ row_length n i }
@@ -41,6 +43,7 @@ pub fn row_start(n: usize, i: usize) -> usize
 }
 
 // Where among all blocks the one of row i and column j stands.
+#[tactic(auto, unfolding(crate::specs::Layout::block_place))]
 pub fn block_place(n: usize, i: usize, j: usize) -> usize
     requires near { Near n i j }
     requires le_n { (2 ≤ n) × (n ≤ 32) }

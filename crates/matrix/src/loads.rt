@@ -49,6 +49,7 @@ fn pick_block() -> Mat4
 }
 
 // c added to the three numbers of a position; the twist's stays.
+#[tactic(auto, unfolding(crate::specs::Loads::pulled))]
 fn pulled(c: Vec3, g: Vec4) -> Vec4
     ensures { result ≡ pulled c g }
 {
@@ -61,6 +62,7 @@ fn pulled(c: Vec3, g: Vec4) -> Vec4
 }
 
 // c added to the gradient of vertex v.
+#[tactic(auto, unfolding(crate::specs::Loads::with_pull))]
 fn pull(work: &mut [f64], n: usize, v: usize, c: Vec3)
     requires le_n { (2 ≤ n) × (n ≤ 32) }
     requires v_lt_n { v < n }
@@ -74,6 +76,7 @@ fn pull(work: &mut [f64], n: usize, v: usize, c: Vec3)
 }
 
 // Vertex v is pulled from its staged position to the goal.
+#[tactic(auto, unfolding(crate::specs::Loads::with_pick, crate::specs::Loads::pick_force))]
 pub fn add_pick(work: &mut [f64], n: usize, v: usize, goal: Vec3)
     requires le_n { (2 ≤ n) × (n ≤ 32) }
     requires v_lt_n { v < n }
@@ -88,6 +91,7 @@ pub fn add_pick(work: &mut [f64], n: usize, v: usize, goal: Vec3)
 }
 
 // 1 / (dt dt) on the diagonal of every vertex: positions only.
+#[tactic(auto, unfolding(crate::specs::Loads::with_inertia))]
 pub fn add_inertia(work: &mut [f64], n: usize, dt: f64)
     requires le_n { (2 ≤ n) × (n ≤ 32) }
     requires work_len { length work.old ≡ work_numbers }

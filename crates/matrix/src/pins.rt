@@ -15,6 +15,7 @@ use vectors::mat4::Mat4;
 use vectors::vec4::Vec4;
 
 // x, or 0 where the byte pins.
+#[tactic(auto, unfolding(crate::specs::Pins::unless_fixed))]
 fn unless_fixed(pin: u8, x: f64) -> f64
     ensures { result ≡ unless_fixed pin x }
 {
@@ -22,6 +23,7 @@ fn unless_fixed(pin: u8, x: f64) -> f64
 }
 
 // The row v with 0 where the four bytes from `at` on pin.
+#[tactic(auto, unfolding(crate::specs::Pins::row_unless_fixed))]
 fn row_unless_fixed(pins: &[u8], at: usize, v: Vec4) -> Vec4
     requires { at + 4 ≤ length pins.now }
     ensures { result ≡ row_unless_fixed pins.now at v }
@@ -35,6 +37,7 @@ fn row_unless_fixed(pins: &[u8], at: usize, v: Vec4) -> Vec4
 }
 
 // The vector at `to` gets 0 where the pins of its n vertices pin.
+#[tactic(auto, unfolding(crate::specs::Pins::set_fix_dof_to_rhs_vector, crate::specs::Rows::rows4))]
 pub(crate) fn set_fix_dof_to_rhs_vector(work: &mut [f64], to: usize, pins: &[u8], n: usize)
     requires n_in_bounds { to + 4 * n ≤ length work.old }
     requires n_in_bounds_2 { 4 * n ≤ length pins.now }
@@ -50,6 +53,7 @@ pub(crate) fn set_fix_dof_to_rhs_vector(work: &mut [f64], to: usize, pins: &[u8]
 
 // One column v of a block: 0 where the four bytes from `row` on pin, and e if the byte at `column`
 // pins all of it.
+#[tactic(auto, unfolding(crate::specs::Pins::column_fixed))]
 fn column_unless_fixed(pins: &[u8], row: usize, column: usize, e: Vec4, v: Vec4) -> Vec4
     requires row_in_bounds { row + 4 ≤ length pins.now }
     requires column_in_bounds { column < length pins.now }
@@ -61,6 +65,7 @@ fn column_unless_fixed(pins: &[u8], row: usize, column: usize, e: Vec4, v: Vec4)
 
 // The block m of vertices i and j: the pins of i make its rows 0, and those of j make its columns
 // the ones of e.
+#[tactic(auto, unfolding(crate::specs::Pins::block_fixed))]
 fn block_unless_fixed(pins: &[u8], i: usize, j: usize, e: Mat4, m: Mat4) -> Mat4
     requires i_in_bounds { 4 * i + 4 ≤ length pins.now }
     requires j_in_bounds { 4 * j + 4 ≤ length pins.now }
@@ -78,6 +83,7 @@ fn block_unless_fixed(pins: &[u8], i: usize, j: usize, e: Mat4, m: Mat4) -> Mat4
 
 // What pinned columns become: in the block of a vertex with itself those of the unit matrix, so
 // that the equation of a pinned number has its own unknown with factor 1 and no other. Elsewhere 0.
+#[tactic(auto, unfolding(crate::specs::Pins::pinned_columns))]
 fn pinned_columns(diagonal: bool) -> Mat4
     ensures { result ≡ pinned_columns diagonal }
 {

@@ -8,6 +8,7 @@ use vectors::vec3::Vec3;
 use vectors::vec4::Vec4;
 
 // The vector that begins at `at`.
+#[tactic(auto, unfolding(crate::specs::Rows::row3))]
 pub fn load3(work: &[f64], at: usize) -> Vec3
     requires { at + 3 ≤ length work.now }
     ensures { result ≡ row3 work.now at }
@@ -20,6 +21,7 @@ pub fn load3(work: &[f64], at: usize) -> Vec3
 }
 
 // The row that begins at `at`.
+#[tactic(auto, unfolding(crate::specs::Rows::row4))]
 pub fn load4(work: &[f64], at: usize) -> Vec4
     requires { at + 4 ≤ length work.now }
     ensures { result ≡ row4 work.now at }
@@ -33,6 +35,7 @@ pub fn load4(work: &[f64], at: usize) -> Vec4
 }
 
 // The block that begins at `at`.
+#[tactic(auto, unfolding(crate::specs::Rows::block16))]
 pub(crate) fn load_block(work: &[f64], at: usize) -> Mat4
     requires { at + 16 ≤ length work.now }
     ensures { result ≡ block16 work.now at }
@@ -46,6 +49,7 @@ pub(crate) fn load_block(work: &[f64], at: usize) -> Mat4
 }
 
 // v becomes the vector that begins at `at`.
+#[tactic(auto, unfolding(crate::specs::Rows::numbers3))]
 pub fn store3(area: &mut [f64], at: usize, v: Vec3)
     requires { at + 3 ≤ length area.old }
     ensures { area.new ≡ put area.old at (numbers3 v) }
@@ -56,6 +60,7 @@ pub fn store3(area: &mut [f64], at: usize, v: Vec3)
 }
 
 // v becomes the row that begins at `at`.
+#[tactic(auto, unfolding(crate::specs::Rows::numbers4))]
 pub(crate) fn store4(work: &mut [f64], at: usize, v: Vec4)
     requires { at + 4 ≤ length work.old }
     ensures { work.new ≡ put work.old at (numbers4 v) }
@@ -67,6 +72,7 @@ pub(crate) fn store4(work: &mut [f64], at: usize, v: Vec4)
 }
 
 // m becomes the block that begins at `at`.
+#[tactic(auto, unfolding(crate::specs::Rows::numbers16))]
 pub(crate) fn store_block(work: &mut [f64], at: usize, m: Mat4)
     requires { at + 16 ≤ length work.old }
     ensures { work.new ≡ put work.old at (numbers16 m) }

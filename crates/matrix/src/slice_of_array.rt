@@ -9,6 +9,7 @@ use crate::rows;
 use vectors::vec4;
 use vectors::vec4::Vec4;
 
+#[tactic(auto, unfolding(crate::specs::SliceOfArray::zero_rows))]
 pub fn set_zero(work: &mut [f64], to: usize, n: usize)
     requires { to + 4 * n ≤ length work.old }
     ensures { work.new ≡ put work.old to (flat4 (zero_rows n)) }
@@ -27,6 +28,7 @@ pub fn set_zero(work: &mut [f64], to: usize, n: usize)
 }
 
 // The sum of the rows' products, upward from +0.
+#[tactic(auto, unfolding(crate::specs::SliceOfArray::dot_from, crate::specs::Parts::table, crate::specs::SliceOfArray::dot_rows, crate::specs::Rows::rows4))]
 pub fn dot(work: &[f64], a: usize, b: usize, n: usize) -> f64
     requires n_in_bounds { a + 4 * n ≤ length work.now }
     requires n_in_bounds_2 { b + 4 * n ≤ length work.now }
@@ -41,6 +43,7 @@ pub fn dot(work: &[f64], a: usize, b: usize, n: usize) -> f64
     sum
 }
 
+#[tactic(auto, unfolding(crate::specs::Rows::rows4))]
 pub fn copy(work: &mut [f64], to: usize, from: usize, n: usize)
     requires n_in_bounds { to + 4 * n ≤ length work.old }
     requires n_in_bounds_2 { from + 4 * n ≤ length work.old }
@@ -56,6 +59,7 @@ pub fn copy(work: &mut [f64], to: usize, from: usize, n: usize)
 }
 
 // The vector at `to` and alpha times the one at `from`.
+#[tactic(auto, unfolding(crate::specs::SliceOfArray::add_scaled_vector, crate::specs::Rows::rows4))]
 pub fn add_scaled_vector(work: &mut [f64], to: usize, alpha: f64, from: usize, n: usize)
     requires n_in_bounds { to + 4 * n ≤ length work.old }
     requires n_in_bounds_2 { from + 4 * n ≤ length work.old }
@@ -72,6 +76,7 @@ pub fn add_scaled_vector(work: &mut [f64], to: usize, alpha: f64, from: usize, n
 }
 
 // As `add_scaled_vector`; answers the dot product of the new vector with itself.
+#[tactic(auto, unfolding(crate::specs::SliceOfArray::dot_from, crate::specs::Parts::table, crate::specs::SliceOfArray::add_scaled_vector, crate::specs::Rows::rows4, crate::specs::SliceOfArray::dot_rows))]
 pub fn add_scaled_and_square(work: &mut [f64], to: usize, alpha: f64, from: usize, n: usize) -> f64
     requires n_in_bounds { to + 4 * n ≤ length work.old }
     requires n_in_bounds_2 { from + 4 * n ≤ length work.old }
@@ -93,6 +98,7 @@ pub fn add_scaled_and_square(work: &mut [f64], to: usize, alpha: f64, from: usiz
 }
 
 // The vector at `from` and beta times the one at `to`, which is written.
+#[tactic(auto, unfolding(crate::specs::SliceOfArray::scale_and_add_vec, crate::specs::Rows::rows4))]
 pub fn scale_and_add_vec(work: &mut [f64], to: usize, beta: f64, from: usize, n: usize)
     requires n_in_bounds { to + 4 * n ≤ length work.old }
     requires n_in_bounds_2 { from + 4 * n ≤ length work.old }

@@ -15,6 +15,7 @@ use vectors::vec4::Vec4;
 
 // The block a times v. The +0 that the definition's sums begin with is left out: it only makes +0 of
 // a sum that is -0.
+#[tactic(auto, unfolding(crate::specs::SparseSquare::times_from_first))]
 fn block_product(a: Mat4, v: Vec4) -> Vec4
     ensures { result ≡ times_from_first a v }
 {
@@ -83,6 +84,7 @@ fn add_after(row: &[f64], at: usize, x: &[f64], from: usize, high: usize, y: Vec
 
 // The blocks of row i times the vector x of n rows; `old` is what the product was before. By 0 it may
 // be -0, and not once it is added to +0.
+#[tactic(auto, unfolding(crate::specs::Layout::row_length))]
 fn row_product(row: &[f64], x: &[f64], n: usize, i: usize, old: Vec4) -> Vec4
     requires i_lt_n { i < n }
     requires n_bound { n ≤ 32 }
@@ -123,6 +125,7 @@ fn row_times(work: &[f64], n: usize, i: usize, at: usize, p: usize, ap: usize) -
 }
 
 // The matrix times the vector at p, stored at ap.
+#[tactic(auto, unfolding(crate::specs::Layout::row_start))]
 pub fn mult_vec(work: &mut [f64], n: usize, p: usize, ap: usize)
     requires le_n { (2 ≤ n) × (n ≤ 32) }
     requires matrix_numbers_le_ap { matrix_numbers ≤ ap }

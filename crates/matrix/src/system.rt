@@ -13,6 +13,7 @@ use vectors::vec4::Vec4;
 use vectors::{finite, mat4, vec4};
 
 // Whether the n rows from `at` on are finite.
+#[tactic(auto, unfolding(crate::specs::System::every, crate::specs::Parts::table, crate::specs::Rows::rows4))]
 pub fn rows_are_finite(work: &[f64], at: usize, n: usize) -> bool
     requires { at + 4 * n ≤ length work.now }
     ensures { result ≡ every vec4_is_finite (rows4 work.now at n) }
@@ -27,6 +28,7 @@ pub fn rows_are_finite(work: &[f64], at: usize, n: usize) -> bool
 }
 
 // Whether the n blocks from `at` on are finite.
+#[tactic(auto, unfolding(crate::specs::System::every, crate::specs::Parts::table, crate::specs::Rows::blocks16))]
 fn blocks_are_finite(work: &[f64], at: usize, n: usize) -> bool
     requires { at + 16 * n ≤ length work.now }
     ensures { result ≡ every mat4_is_finite (blocks16 work.now at n) }
@@ -41,6 +43,7 @@ fn blocks_are_finite(work: &[f64], at: usize, n: usize) -> bool
 }
 
 // Whether the energy, the gradient and every block of the system of n vertices are finite.
+#[tactic(auto, unfolding(crate::specs::System::system_is_finite, crate::specs::System::system_at, crate::specs::SparseSquare::matrix_rows))]
 pub fn is_finite(energy: f64, work: &[f64], n: usize) -> bool
     requires le_n { (2 ≤ n) × (n ≤ 32) }
     requires work_len { length work.now ≡ work_numbers }
@@ -52,6 +55,7 @@ pub fn is_finite(energy: f64, work: &[f64], n: usize) -> bool
 }
 
 // v added to the gradient of vertex i.
+#[tactic(auto, unfolding(crate::specs::HairSystem::plus_gradient))]
 pub(crate) fn add_gradient(work: &mut [f64], n: usize, i: usize, v: Vec4)
     requires le_n { (2 ≤ n) × (n ≤ 32) }
     requires i_lt_n { i < n }
@@ -65,6 +69,7 @@ pub(crate) fn add_gradient(work: &mut [f64], n: usize, i: usize, v: Vec4)
 }
 
 // m added to the block of row i and column j.
+#[tactic(auto, unfolding(crate::specs::HairSystem::plus_block))]
 pub(crate) fn add_block(work: &mut [f64], n: usize, i: usize, j: usize, m: Mat4)
     requires le_n { (2 ≤ n) × (n ≤ 32) }
     requires near { Near n i j }
@@ -78,6 +83,7 @@ pub(crate) fn add_block(work: &mut [f64], n: usize, i: usize, j: usize, m: Mat4)
 }
 
 // c added to the three diagonal entries of positions; the twist's stays.
+#[tactic(auto, unfolding(crate::specs::HairSystem::diagonal_plus))]
 fn diagonal_plus(m: Mat4, c: f64) -> Mat4
     ensures { result ≡ diagonal_plus c m }
 {

@@ -1,0 +1,16 @@
+-- The invariant: the sum is that of the first i rows.
+use Prim.Native.Nat.{ℕ, ◌+◌, ◌-◌, ◌*◌, ◌≤◌}
+use mathlib.Core.Path.{◌≡◌, refl, sym}
+use native.Mathlib.Omega.{arith}
+use Rattle.vectors.specs.Number.{plus_zero}
+use Rattle.matrix.specs.Parts.{table}
+use Rattle.matrix.specs.Rows.{row4, rows4}
+use Rattle.matrix.specs.SliceOfArray.{dot_from, dot_rows}
+use Rattle.matrix.proofs.RowLaws.{dot_more}
+use Rattle.matrix.proofs.slice_of_array.dot.Given as goal
+
+abbrev pub invariant-loop-i : goal.invariant-loop-i
+invariant-loop-i l = (l.i ≤ l.n) × (l.sum ≡ dot_from plus_zero (table l.i (λ (k : ℕ). row4 l.work (l.a + 4 * k))) (table l.i (λ (k : ℕ). row4 l.work (l.b + 4 * k))))
+
+abbrev pub decreases-loop-i : goal.decreases-loop-i
+decreases-loop-i l = l.n - l.i
