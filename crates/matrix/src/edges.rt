@@ -19,7 +19,6 @@ pub struct EdgeFrames {
 }
 
 // The length of the edge from vertex i, of the positions at p.
-#[tactic(auto, unfolding(crate::specs::Edges::length_at, vectors::specs::Edge::edge_length, vectors::specs::Edge::measured_of, vectors::specs::Vec3::vec3_norm))]
 fn length_at(xyz: &[f64], p: usize, n: usize, i: usize) -> f64
     requires i_bound { i + 1 < n }
     requires n_in_bounds { p + 3 * n ≤ length xyz.now }
@@ -47,7 +46,6 @@ pub fn edge_lengths(xyz: &[f64], p: usize, n: usize) -> [f64; 32]
 }
 
 // The edge from vertex i, of the positions at p and the x axes at f; its length is known.
-#[tactic(auto, unfolding(crate::specs::Edges::frame_at, crate::specs::Edges::length_at))]
 fn frame_at(
     xyz: &[f64],
     p: usize,

@@ -43,7 +43,6 @@ pub fn row_start(n: usize, i: usize) -> usize
 }
 
 // Where among all blocks the one of row i and column j stands.
-#[tactic(auto, unfolding(crate::specs::Layout::block_place))]
 pub fn block_place(n: usize, i: usize, j: usize) -> usize
     requires near { Near n i j }
     requires le_n { (2 ≤ n) × (n ≤ 32) }

@@ -49,7 +49,6 @@ pub(crate) fn load_block(work: &[f64], at: usize) -> Mat4
 }
 
 // v becomes the vector that begins at `at`.
-#[tactic(auto, unfolding(crate::specs::Rows::numbers3))]
 pub fn store3(area: &mut [f64], at: usize, v: Vec3)
     requires { at + 3 ≤ length area.old }
     ensures { area.new ≡ put area.old at (numbers3 v) }
@@ -60,7 +59,6 @@ pub fn store3(area: &mut [f64], at: usize, v: Vec3)
 }
 
 // v becomes the row that begins at `at`.
-#[tactic(auto, unfolding(crate::specs::Rows::numbers4))]
 pub(crate) fn store4(work: &mut [f64], at: usize, v: Vec4)
     requires { at + 4 ≤ length work.old }
     ensures { work.new ≡ put work.old at (numbers4 v) }
@@ -72,7 +70,6 @@ pub(crate) fn store4(work: &mut [f64], at: usize, v: Vec4)
 }
 
 // m becomes the block that begins at `at`.
-#[tactic(auto, unfolding(crate::specs::Rows::numbers16))]
 pub(crate) fn store_block(work: &mut [f64], at: usize, m: Mat4)
     requires { at + 16 ≤ length work.old }
     ensures { work.new ≡ put work.old at (numbers16 m) }
