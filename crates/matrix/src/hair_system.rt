@@ -21,7 +21,6 @@ use vectors::vec4::Vec4;
 use vectors::{mat4, vec4};
 
 // The stretch of the edge from vertex i to the next, by its lengths at rest and as it is staged.
-#[tactic(auto, unfolding(crate::specs::Edges::stretch_by, crate::specs::Edges::length_at))]
 fn stretch_at(work: &[f64], n: usize, i: usize, k: f64, ini: f64, def: f64) -> Stretch
     requires i_bound { i + 1 < n }
     requires n_bound { n ≤ 32 }
@@ -120,7 +119,6 @@ fn add_bend(work: &mut [f64], n: usize, k: usize, e: Bend)
 
 // All stretch elements upward, added to the system, and their energies to w; the edges' lengths at
 // rest and as they are staged are known.
-#[tactic(auto, unfolding(crate::specs::HairSystem::stretch_element, crate::specs::Edges::stretches_by))]
 fn add_stretches(
     work: &mut [f64],
     n: usize,
@@ -149,7 +147,6 @@ fn add_stretches(
 
 // All bend elements upward, added to the system, and their energies to w; the edges' lengths at rest
 // and as they are staged are known. The second edge of an element is the first of the next.
-#[tactic(auto, unfolding(crate::specs::HairSystem::bend_element, crate::specs::HairSystem::bends))]
 fn add_bends(
     work: &mut [f64],
     n: usize,

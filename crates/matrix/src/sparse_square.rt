@@ -125,7 +125,6 @@ fn row_times(work: &[f64], n: usize, i: usize, at: usize, p: usize, ap: usize) -
 }
 
 // The matrix times the vector at p, stored at ap.
-#[tactic(auto, unfolding(crate::specs::Layout::row_start))]
 pub fn mult_vec(work: &mut [f64], n: usize, p: usize, ap: usize)
     requires le_n { (2 ≤ n) × (n ≤ 32) }
     requires matrix_numbers_le_ap { matrix_numbers ≤ ap }

@@ -1,22 +1,18 @@
 -- The invariant: the first i elements are added to the system and to the energy. The shape that the next one reads is still the staged one.
-use Prim.Native.Nat.{ℕ, ◌+◌, ◌-◌, ◌≤◌}
-use mathlib.Core.Path.{◌≡◌, ap, ◌∙◌}
-use mathlib.Core.List.{List}
-use native.Mathlib.Omega.{arith}
-use lib.ListN.{get_or}
+use Rattle.std.proofs.Common.{ℕ, ◌+◌, ◌-◌, ◌≤◌, get_or}
 use lib.Ieee.{nan}
-use Rattle.vectors.specs.declared.vec3.Vec3.{Vec3}
 use Rattle.matrix.specs.Rows.{rows3}
 use Rattle.matrix.specs.Area.{place_positions}
 use Rattle.matrix.specs.HairSystem.{stretch_element}
-use Rattle.matrix.specs.Edges.{stretch_by, stretches_by}
-use Rattle.matrix.proofs.Shapes.{rows3_kept}
-use Rattle.matrix.proofs.EdgeLaws.{length_in}
-use Rattle.matrix.proofs.SystemLaws.{Gathered, gathered_none, gathered_more}
+use Rattle.matrix.specs.Edges.{stretch_by}
+use Rattle.matrix.proofs.SystemLaws.{Gathered}
 use Rattle.matrix.proofs.hair_system.add_stretches.Given as goal
 
 abbrev pub invariant-loop-i : goal.invariant-loop-i
-invariant-loop-i l = (l.i + 1 ≤ l.n) × Gathered l.n l.initial.work l.w (λ (j : ℕ). stretch_element j (stretch_by (rows3 l.initial.work place_positions l.n) l.k j (get_or l.ini j nan))) l.i l.work l.sum
+invariant-loop-i l = record {
+  within : l.i + 1 ≤ l.n;
+  gathered : Gathered l.n l.initial.work l.w (λ (j : ℕ). stretch_element j (stretch_by (rows3 l.initial.work place_positions l.n) l.k j (get_or l.ini j nan))) l.i l.work l.sum;
+}
 
 abbrev pub decreases-loop-i : goal.decreases-loop-i
 decreases-loop-i l = l.n - l.i

@@ -1,0 +1,15 @@
+-- Both vectors stand where the shape says. The edge is measured the other way round, which makes the same length.
+use Rattle.std.proofs.Common.{◌+◌, ◌*◌, ◌∙◌, arith}
+use Rattle.vectors.proofs.Reversed.{norm_reversed}
+use Rattle.elements.proofs.OwnLength.{stretch_of_own_length}
+use Rattle.matrix.specs.Area.{place_positions}
+use Rattle.matrix.specs.Edges.{length_at, stretch_by}
+use Rattle.matrix.proofs.Shapes.{vec3_at_lem}
+use Rattle.matrix.proofs.hair_system.stretch_at.Goals as goal
+
+pub returns : goal.returns
+unfolding stretch_by length_at
+returns c =
+    let a = c.args in
+    simp (c.stretch_of_length.ensures, c.load3-p1.ensures, c.load3-p0.ensures, vec3_at_lem a.work.now place_positions a.n a.i (place_positions + 3 * a.i) (omega arith) (omega arith), vec3_at_lem a.work.now place_positions a.n (a.i + 1) (place_positions + 3 * a.i + 3) (omega arith) (omega arith))
+    (stretch_of_own_length _ _ _ _ _ (c.requires.def_value ∙ norm_reversed _ _))

@@ -1,0 +1,24 @@
+-- Cleared, then measured, then all elements, then the damping; the staged shape stays throughout.
+use Rattle.std.proofs.Common.{◌-◌, sym, ap, ◌∙◌, arith}
+use Rattle.matrix.specs.Rows.{rows3}
+use Rattle.matrix.specs.Area.{place_positions}
+use Rattle.matrix.specs.HairSystem.{shape}
+use Rattle.matrix.specs.Edges.{edge_lengths}
+use Rattle.matrix.proofs.Shapes.{rows3_kept}
+use Rattle.matrix.proofs.Assembly.{assembly}
+use Rattle.matrix.proofs.hair_system.wdwddw_hair_system.Goals as goal
+
+pub add_bends-energy-requires-clause-def_value : goal.add_bends-energy-requires-clause-def_value
+add_bends-energy-requires-clause-def_value c =
+    c.edge_lengths-def.ensures ∙ ap (edge_lengths (c.args.n - 1)) (sym (rows3_kept _ _ c.add_stretches-w.ensures.work_unchanged place_positions c.args.n (omega arith)))
+
+pub returns : goal.returns
+returns c =
+    let a = c.args in
+    let ini = shape (rows3 a.rest.now 0 a.n) (rows3 a.axes.now 0 a.n) in
+    let cleared = c.clear.ensures in
+    let stretched = c.add_stretches-w.ensures in
+    let bent = c.add_bends-energy.ensures in
+    let damped = c.add_to_diagonals.ensures in
+    let all = assembly a.n ini a.stretch a.bendtwist _ a.work.now _ _ _ _ _ _ c.requires.le_n.1 c.edge_lengths-ini.ensures cleared.work_after cleared.work_unchanged stretched.value stretched.work_after stretched.work_unchanged bent.value bent.work_after bent.work_unchanged damped.work_after damped.work_unchanged in
+    record { value = all.0; work_after = all.1.0; work_unchanged = all.1.1 }

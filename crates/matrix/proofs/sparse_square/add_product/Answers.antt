@@ -1,0 +1,10 @@
+-- The calls are the definition's operations, but for the +0 in front of the product's sums.
+use Rattle.matrix.specs.Rows.{row4, block16}
+use Rattle.matrix.proofs.FromFirst.{product_added}
+use Rattle.matrix.proofs.sparse_square.add_product.Goals as goal
+
+pub returns : goal.returns
+returns c =
+    let a = c.args in
+    let sum = product_added (block16 a.m.now a.at) (row4 a.x.now a.from) c.requires.no_minus_zero (simp (c.add.ensures, c.block_product.ensures, c.load4-v.ensures, c.load_block-b.ensures)) in
+    record { value = sum.0; no_minus_zero_2 = sum.1 }
