@@ -62,7 +62,6 @@ fn pulled(c: Vec3, g: Vec4) -> Vec4
 }
 
 // c added to the gradient of vertex v.
-#[tactic(auto, unfolding(crate::specs::Loads::with_pull))]
 fn pull(work: &mut [f64], n: usize, v: usize, c: Vec3)
     requires le_n { (2 ≤ n) × (n ≤ 32) }
     requires v_lt_n { v < n }
@@ -76,7 +75,6 @@ fn pull(work: &mut [f64], n: usize, v: usize, c: Vec3)
 }
 
 // Vertex v is pulled from its staged position to the goal.
-#[tactic(auto, unfolding(crate::specs::Loads::with_pick, crate::specs::Loads::pick_force))]
 pub fn add_pick(work: &mut [f64], n: usize, v: usize, goal: Vec3)
     requires le_n { (2 ≤ n) × (n ≤ 32) }
     requires v_lt_n { v < n }

@@ -37,7 +37,6 @@ fn row_unless_fixed(pins: &[u8], at: usize, v: Vec4) -> Vec4
 }
 
 // The vector at `to` gets 0 where the pins of its n vertices pin.
-#[tactic(auto, unfolding(crate::specs::Pins::set_fix_dof_to_rhs_vector, crate::specs::Rows::rows4))]
 pub(crate) fn set_fix_dof_to_rhs_vector(work: &mut [f64], to: usize, pins: &[u8], n: usize)
     requires n_in_bounds { to + 4 * n ≤ length work.old }
     requires n_in_bounds_2 { 4 * n ≤ length pins.now }

@@ -59,7 +59,6 @@ pub fn copy(work: &mut [f64], to: usize, from: usize, n: usize)
 }
 
 // The vector at `to` and alpha times the one at `from`.
-#[tactic(auto, unfolding(crate::specs::SliceOfArray::add_scaled_vector, crate::specs::Rows::rows4))]
 pub fn add_scaled_vector(work: &mut [f64], to: usize, alpha: f64, from: usize, n: usize)
     requires n_in_bounds { to + 4 * n ≤ length work.old }
     requires n_in_bounds_2 { from + 4 * n ≤ length work.old }
@@ -76,7 +75,6 @@ pub fn add_scaled_vector(work: &mut [f64], to: usize, alpha: f64, from: usize, n
 }
 
 // As `add_scaled_vector`; answers the dot product of the new vector with itself.
-#[tactic(auto, unfolding(crate::specs::SliceOfArray::dot_from, crate::specs::Parts::table, crate::specs::SliceOfArray::add_scaled_vector, crate::specs::Rows::rows4, crate::specs::SliceOfArray::dot_rows))]
 pub fn add_scaled_and_square(work: &mut [f64], to: usize, alpha: f64, from: usize, n: usize) -> f64
     requires n_in_bounds { to + 4 * n ≤ length work.old }
     requires n_in_bounds_2 { from + 4 * n ≤ length work.old }
@@ -98,7 +96,6 @@ pub fn add_scaled_and_square(work: &mut [f64], to: usize, alpha: f64, from: usiz
 }
 
 // The vector at `from` and beta times the one at `to`, which is written.
-#[tactic(auto, unfolding(crate::specs::SliceOfArray::scale_and_add_vec, crate::specs::Rows::rows4))]
 pub fn scale_and_add_vec(work: &mut [f64], to: usize, beta: f64, from: usize, n: usize)
     requires n_in_bounds { to + 4 * n ≤ length work.old }
     requires n_in_bounds_2 { from + 4 * n ≤ length work.old }

@@ -43,7 +43,6 @@ fn blocks_are_finite(work: &[f64], at: usize, n: usize) -> bool
 }
 
 // Whether the energy, the gradient and every block of the system of n vertices are finite.
-#[tactic(auto, unfolding(crate::specs::System::system_is_finite, crate::specs::System::system_at, crate::specs::SparseSquare::matrix_rows))]
 pub fn is_finite(energy: f64, work: &[f64], n: usize) -> bool
     requires le_n { (2 ≤ n) × (n ≤ 32) }
     requires work_len { length work.now ≡ work_numbers }
@@ -55,7 +54,6 @@ pub fn is_finite(energy: f64, work: &[f64], n: usize) -> bool
 }
 
 // v added to the gradient of vertex i.
-#[tactic(auto, unfolding(crate::specs::HairSystem::plus_gradient))]
 pub(crate) fn add_gradient(work: &mut [f64], n: usize, i: usize, v: Vec4)
     requires le_n { (2 ≤ n) × (n ≤ 32) }
     requires i_lt_n { i < n }
@@ -69,7 +67,6 @@ pub(crate) fn add_gradient(work: &mut [f64], n: usize, i: usize, v: Vec4)
 }
 
 // m added to the block of row i and column j.
-#[tactic(auto, unfolding(crate::specs::HairSystem::plus_block))]
 pub(crate) fn add_block(work: &mut [f64], n: usize, i: usize, j: usize, m: Mat4)
     requires le_n { (2 ≤ n) × (n ≤ 32) }
     requires near { Near n i j }

@@ -1,9 +1,6 @@
 -- The invariant: the blocks of the rows before row i are pinned.
-use Prim.Native.Nat.{◌+◌, ◌-◌, ◌≤◌}
-use mathlib.Core.Path.{◌∙◌}
-use lib.Dec.{eqb, ltb}
-use native.Mathlib.Omega.{arith}
-use Rattle.matrix.proofs.Fixing.{Fixed, fixed_first, fixed_next, fixed_all, number_adds}
+use Rattle.std.proofs.Common.{◌-◌, ◌≤◌, ltb}
+use Rattle.matrix.proofs.Fixing.{Fixed}
 use Rattle.matrix.proofs.pins.set_fixed_bc.Given as goal
 
 abbrev pub invariant-loop-i : goal.invariant-loop-i

@@ -1,14 +1,8 @@
--- The invariant: the first i rows are stored. The rows still to be read are apart from them.
-use Prim.Native.Nat.{ℕ, ◌+◌, ◌-◌, ◌*◌, ◌≤◌}
-use mathlib.Core.Path.{sym, ap, ◌∙◌}
-use mathlib.Core.List.{List}
-use native.Mathlib.Omega.{arith}
+-- The invariant: the first i rows are stored.
+use Rattle.std.proofs.Common.{ℕ, ◌+◌, ◌-◌, ◌*◌, ◌≤◌}
 use Rattle.vectors.specs.Vec4.{vec4_add, vec4_scale}
-use Rattle.vectors.specs.declared.vec4.Vec4.{Vec4}
-use Rattle.matrix.specs.Parts.{put}
-use Rattle.matrix.specs.Rows.{row4, rows4, flat4}
-use Rattle.matrix.specs.SliceOfArray.{add_scaled_vector}
-use Rattle.matrix.proofs.RowLaws.{Stored, stored_none, stored_more, unstored, stored_all, zip_tables}
+use Rattle.matrix.specs.Rows.{row4}
+use Rattle.matrix.proofs.RowLaws.{Stored}
 use Rattle.matrix.proofs.slice_of_array.add_scaled_vector.Given as goal
 
 abbrev pub invariant-loop-i : goal.invariant-loop-i

@@ -1,9 +1,7 @@
--- The invariant: the first i rows are stored. The rows still to be read are apart from them.
-use Prim.Native.Nat.{ℕ, ◌+◌, ◌-◌, ◌*◌, ◌≤◌}
-use mathlib.Core.Path.{◌∙◌}
-use native.Mathlib.Omega.{arith}
-use Rattle.matrix.specs.Rows.{row4, rows4}
-use Rattle.matrix.proofs.RowLaws.{Stored, stored_none, stored_more, unstored, stored_all}
+-- The invariant: the first i rows are stored.
+use Rattle.std.proofs.Common.{ℕ, ◌+◌, ◌-◌, ◌*◌, ◌≤◌}
+use Rattle.matrix.specs.Rows.{row4}
+use Rattle.matrix.proofs.RowLaws.{Stored}
 use Rattle.matrix.proofs.slice_of_array.copy.Given as goal
 
 abbrev pub invariant-loop-i : goal.invariant-loop-i

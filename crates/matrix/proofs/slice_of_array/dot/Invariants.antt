@@ -1,12 +1,9 @@
 -- The invariant: the sum is that of the first i rows.
-use Prim.Native.Nat.{ℕ, ◌+◌, ◌-◌, ◌*◌, ◌≤◌}
-use mathlib.Core.Path.{◌≡◌, refl, sym}
-use native.Mathlib.Omega.{arith}
+use Rattle.std.proofs.Common.{◌≡◌, ℕ, ◌+◌, ◌-◌, ◌*◌, ◌≤◌}
 use Rattle.vectors.specs.Number.{plus_zero}
 use Rattle.matrix.specs.Parts.{table}
-use Rattle.matrix.specs.Rows.{row4, rows4}
-use Rattle.matrix.specs.SliceOfArray.{dot_from, dot_rows}
-use Rattle.matrix.proofs.RowLaws.{dot_more}
+use Rattle.matrix.specs.Rows.{row4}
+use Rattle.matrix.specs.SliceOfArray.{dot_from}
 use Rattle.matrix.proofs.slice_of_array.dot.Given as goal
 
 abbrev pub invariant-loop-i : goal.invariant-loop-i

@@ -1,9 +1,6 @@
 -- The invariant: the first i rows are stored, each +0.
-use Prim.Native.Nat.{◌-◌, ◌≤◌}
-use mathlib.Core.Path.{refl}
-use native.Mathlib.Omega.{arith}
-use Rattle.matrix.specs.SliceOfArray.{zero_rows}
-use Rattle.matrix.proofs.RowLaws.{Stored, stored_none, stored_more, stored_all}
+use Rattle.std.proofs.Common.{◌-◌, ◌≤◌}
+use Rattle.matrix.proofs.RowLaws.{Stored}
 use Rattle.matrix.proofs.slice_of_array.set_zero.Given as goal
 
 abbrev pub invariant-loop-i : goal.invariant-loop-i

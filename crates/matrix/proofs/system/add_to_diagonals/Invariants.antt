@@ -1,8 +1,6 @@
 -- The invariant: c is added to the first i diagonal blocks.
-use Prim.Native.Nat.{◌-◌, ◌≤◌}
-use native.Mathlib.Omega.{arith}
-use Rattle.matrix.proofs.Columns.{place_fits}
-use Rattle.matrix.proofs.Diagonals.{Loaded, loaded_none, loaded_more, loaded_all}
+use Rattle.std.proofs.Common.{◌-◌, ◌≤◌}
+use Rattle.matrix.proofs.Diagonals.{Loaded}
 use Rattle.matrix.proofs.system.add_to_diagonals.Given as goal
 
 abbrev pub invariant-loop-i : goal.invariant-loop-i

@@ -1,12 +1,9 @@
 -- The invariant: whether the first i rows are finite.
-use Prim.Native.Nat.{ℕ, ◌+◌, ◌-◌, ◌*◌, ◌≤◌}
-use mathlib.Core.Path.{◌≡◌, refl, sym}
-use native.Mathlib.Omega.{arith}
+use Rattle.std.proofs.Common.{◌≡◌, ℕ, ◌+◌, ◌-◌, ◌*◌, ◌≤◌}
 use Rattle.vectors.specs.Finite.{vec4_is_finite}
 use Rattle.matrix.specs.Parts.{table}
-use Rattle.matrix.specs.Rows.{row4, rows4}
+use Rattle.matrix.specs.Rows.{row4}
 use Rattle.matrix.specs.System.{every}
-use Rattle.matrix.proofs.Every.{every_more}
 use Rattle.matrix.proofs.system.rows_are_finite.Given as goal
 
 abbrev pub invariant-loop-i : goal.invariant-loop-i

@@ -1,0 +1,15 @@
+-- The right-hand side, then the matrix.
+use Rattle.std.proofs.Common.{◌∙◌}
+use Rattle.matrix.proofs.Fixing.{right_fixed, right_fixed_after}
+use Rattle.matrix.proofs.pins.fix_system.Goals as goal
+
+pub returns : goal.returns
+returns c =
+    let a = c.args in
+    let p = c.requires in
+    let e = c.set_fix_dof_to_rhs_vector.ensures in
+    let f = c.set_fixed_bc.ensures in
+    record {
+      work_after = f.work_after ∙ right_fixed a.n a.pins.now _ _ p.le_n p.work_len e;
+      work_unchanged = f.work_unchanged ∙ right_fixed_after a.n a.pins.now _ _ p.le_n p.work_len e;
+    }

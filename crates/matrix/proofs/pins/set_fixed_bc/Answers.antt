@@ -1,0 +1,26 @@
+-- A turn of the loop pins the blocks of one row more.
+use Rattle.std.proofs.Common.{◌∙◌, ◌+◌, ◌≤◌, eqb, ltb, arith, rules}
+use borrow.Author.Tests.{lt-ltb, le-ltb}
+use Rattle.matrix.proofs.Fixing.{fixed_first, fixed_next, fixed_all, number_adds}
+use Rattle.matrix.proofs.pins.set_fixed_bc.Goals as goal
+
+pub loop-i-init : goal.loop-i-init
+loop-i-init c = (omega arith, fixed_first c.args.n c.args.pins.now (λ p q. ltb p 0) _ (λ i j near. le-ltb i 0 (omega arith)))
+
+pub fix_row-requires : goal.fix_row-requires
+fix_row-requires c = record { le_n = c.requires.le_n; i_lt_n = search rules; n_in_bounds = c.requires.n_in_bounds; work_len = c.loop-i.invariant.1.long ∙ c.requires.work_len }
+
+pub loop-i-preserved : goal.loop-i-preserved
+loop-i-preserved c =
+    let l = c.loop-i in
+    let f = c.fix_row.ensures in
+    (omega arith, fixed_next (λ p q. eqb l.i p) (λ p q. ltb p l.i) (λ p q. ltb p (l.i + 1)) l.invariant.1 (search rules) (f.work_after, f.work_unchanged) (λ i j near. number_adds l.i i))
+
+pub returns : goal.returns
+returns c =
+    let l = c.loop-i in
+    let e : c.args.n ≤ l.i = search rules in
+    record {
+      work_after = l.invariant.1.system ∙ fixed_all c.args.n c.args.pins.now (λ p q. ltb p l.i) _ (λ i j near. lt-ltb i l.i (omega (arith, near.row)));
+      work_unchanged = l.invariant.1.staged;
+    }

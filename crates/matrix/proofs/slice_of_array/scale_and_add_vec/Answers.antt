@@ -1,0 +1,25 @@
+-- A turn of the loop stores one row more. The rows still to be read are apart from those stored, so they are the old ones.
+use Rattle.std.proofs.Common.{◌∙◌, List, ◌+◌, ◌*◌, sym, ap, arith}
+use Rattle.vectors.specs.Vec4.{vec4_add, vec4_scale}
+use Rattle.vectors.specs.declared.vec4.Vec4.{Vec4}
+use Rattle.matrix.specs.Parts.{put}
+use Rattle.matrix.specs.Rows.{rows4, flat4}
+use Rattle.matrix.specs.SliceOfArray.{scale_and_add_vec}
+use Rattle.matrix.proofs.RowLaws.{stored_none, stored_more, unstored, stored_all, zip_tables}
+use Rattle.matrix.proofs.slice_of_array.scale_and_add_vec.Goals as goal
+
+pub loop-i-init : goal.loop-i-init
+loop-i-init c = (omega arith, stored_none _ _ _)
+
+pub loop-i-preserved : goal.loop-i-preserved
+loop-i-preserved c =
+    let l = c.loop-i in
+    let own = unstored l.invariant.1 (c.args.to + 4 * l.i) (λ j a b x y. omega arith) in
+    let other = unstored l.invariant.1 (c.args.from + 4 * l.i) (λ j a b x y. c.requires.apart j x (omega arith) (omega arith) (omega arith)) in
+    (omega arith, stored_more l.invariant.1 c.store4.ensures (simp (c.add.ensures, c.scale.ensures, c.load4-p.ensures, c.load4-r.ensures, own, other)))
+
+pub returns : goal.returns
+unfolding scale_and_add_vec rows4
+returns c =
+    let a = c.args in
+    stored_all c.loop-i.invariant.1 (omega arith) ∙ ap (λ (l : List Vec4). put a.work.now a.to (flat4 l)) (sym (zip_tables (λ (x y : Vec4). vec4_add y (vec4_scale x a.beta)) a.n _ _))
