@@ -14,6 +14,7 @@ use matrix::area;
 use vectors::finite;
 
 // Whether the pick is of one of the n vertices, if there is one.
+#[tactic(auto, unfolding(crate::specs::Step::pick_fits))]
 fn pick_fits(n: usize, pick: Pick) -> bool
     ensures { result ≡ pick_fits n pick }
 {
@@ -24,6 +25,7 @@ fn pick_fits(n: usize, pick: Pick) -> bool
 }
 
 // Whether its goal is finite.
+#[tactic(auto, unfolding(crate::specs::Step::goal_fits))]
 fn goal_fits(pick: Pick) -> bool
     ensures { result ≡ goal_fits pick }
 {
@@ -34,6 +36,7 @@ fn goal_fits(pick: Pick) -> bool
 }
 
 // Whether a time is finite and above 0.
+#[tactic(auto, unfolding(crate::specs::Step::time_fits))]
 pub(crate) fn time_fits(dt: f64) -> bool
     ensures { result ≡ time_fits (over dt) }
 {

@@ -25,6 +25,7 @@ fn not_negative(x: f64) -> bool
     finite::is_finite(x) & !(x < 0.0)
 }
 
+#[tactic(auto, unfolding(crate::specs::Given::good_settings, matrix::specs::System::every))]
 pub fn good_settings(g: Settings) -> bool
     ensures { result ≡ good_settings g }
 {
@@ -36,6 +37,7 @@ pub fn good_settings(g: Settings) -> bool
 }
 
 // An empty seat, or a count and settings that load takes.
+#[tactic(auto, unfolding(crate::specs::Given::good_seat, matrix::specs::System::every))]
 fn good_seat(n: usize, g: Settings) -> bool
     ensures { result ≡ good_seat (seat_entry n g) }
 {
@@ -43,6 +45,7 @@ fn good_seat(n: usize, g: Settings) -> bool
 }
 
 // Every seat is so.
+#[tactic(auto, unfolding(crate::specs::Given::good_record, matrix::specs::System::every, matrix::specs::Parts::table))]
 pub fn good_record(seats: Record) -> bool
     ensures { result ≡ good_record seats }
 {
@@ -55,6 +58,7 @@ pub fn good_record(seats: Record) -> bool
 }
 
 // Whether every number of the list is finite.
+#[tactic(auto, unfolding(matrix::specs::System::every, matrix::specs::Parts::table))]
 pub(crate) fn numbers_are_finite(list: &[f64]) -> bool
     ensures { result ≡ every is_finite list.now }
 {
@@ -78,6 +82,7 @@ fn edge_fits(positions: &[f64], i: usize) -> bool
 }
 
 // Whether every edge between the n vertices has.
+#[tactic(auto, unfolding(matrix::specs::System::every, matrix::specs::Parts::table, crate::specs::Given::edges_fit))]
 pub(crate) fn edges_fit(positions: &[f64], n: usize) -> bool
     requires le_n { 1 ≤ n }
     requires n_in_bounds { 3 * n ≤ length positions.now }

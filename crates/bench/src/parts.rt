@@ -6,6 +6,7 @@ ghost use Rattle.bench.specs.Areas.{vector_part};
 ghost use Rattle.bench.specs.Requests.{padded};
 
 // The list becomes the numbers of the area from `at` on.
+#[tactic(auto, unfolding(matrix::specs::Parts::table))]
 pub(crate) fn store(area: &mut [f64], at: usize, list: &[f64])
     requires { at + length list.now ≤ length area.old }
     ensures { area.new ≡ put area.old at list.now }
@@ -18,6 +19,7 @@ pub(crate) fn store(area: &mut [f64], at: usize, list: &[f64])
 }
 
 // n numbers of the area become 0 from `at` on.
+#[tactic(auto, unfolding(matrix::specs::Parts::table))]
 pub(crate) fn zeros(area: &mut [f64], at: usize, n: usize)
     requires { at + n ≤ length area.old }
     ensures { area.new ≡ put area.old at (replicate n plus_zero) }
@@ -30,6 +32,7 @@ pub(crate) fn zeros(area: &mut [f64], at: usize, n: usize)
 }
 
 // n bytes become 0 from `at` on.
+#[tactic(auto, unfolding(matrix::specs::Parts::table))]
 pub(crate) fn zero_bytes(area: &mut [u8], at: usize, n: usize)
     requires { at + n ≤ length area.old }
     ensures { area.new ≡ put area.old at (replicate n 0) }
@@ -42,6 +45,7 @@ pub(crate) fn zero_bytes(area: &mut [u8], at: usize, n: usize)
 }
 
 // The list, and zeros up to the numbers of 32 vertices, from `at` on.
+#[tactic(auto, unfolding(crate::specs::Requests::padded))]
 pub(crate) fn fill(area: &mut [f64], at: usize, list: &[f64])
     requires list_len_bound { length list.now ≤ vector_part }
     requires vector_part_in_bounds { at + vector_part ≤ length area.old }

@@ -12,6 +12,7 @@ pub(crate) fn unless_pinned(pin: u8, old: f64, new: f64) -> f64
 }
 
 // The same of the three numbers whose bytes begin at `at`.
+#[tactic(auto, unfolding(crate::specs::Update::vec3_unless_pinned))]
 pub(crate) fn vec3_unless_pinned(pins: &[u8], at: usize, old: Vec3, new: Vec3) -> Vec3
     requires { at + 3 ≤ length pins.now }
     ensures { result ≡ vec3_unless_pinned pins.now at old new }

@@ -13,6 +13,7 @@ use matrix::rows;
 use vectors::finite;
 
 // Whether the positions after the step are finite; the working copy of n vertices stands at `copy`.
+#[tactic(auto, unfolding(matrix::specs::System::every, matrix::specs::Parts::table, crate::specs::Step::positions_after))]
 pub(crate) fn positions_are_finite(
     work: &[f64],
     copy: usize,
@@ -38,6 +39,7 @@ pub(crate) fn positions_are_finite(
 }
 
 // The positions after the step become those of the drape.
+#[tactic(auto, unfolding(crate::specs::Step::positions_after))]
 pub(crate) fn store_positions(drape: &mut [f64], work: &[f64], copy: usize, pins: &[u8], n: usize)
     requires n_bound { n ≤ 32 }
     requires n_in_bounds { copy + 3 * n ≤ length work.now }

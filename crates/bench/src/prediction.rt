@@ -10,6 +10,7 @@ use matrix::rows;
 use vectors::vec3::Vec3;
 
 // A number moved for the time dt with its velocity; a pinned one stays in the working copy.
+#[tactic(auto, unfolding(crate::specs::Step::predicted))]
 fn predicted(dt: f64, pin: u8, position: f64, velocity: f64, copy: f64) -> f64
     ensures { result ≡ predicted dt pin position velocity copy }
 {
@@ -35,6 +36,7 @@ fn predicted_vertex(drape: &[f64], pins: &[u8], dt: f64, i: usize) -> Vec3
 }
 
 // The predicted numbers of n vertices become those of `work` from `at` on.
+#[tactic(auto, unfolding(crate::specs::Step::predicted_copy))]
 pub(crate) fn predict(work: &mut [f64], at: usize, drape: &[f64], pins: &[u8], n: usize, dt: f64)
     requires n_bound { n ≤ 32 }
     requires n_in_bounds { at + 3 * n ≤ length work.old }

@@ -51,6 +51,7 @@ impl Settings {
 
 impl Record {
     // The record of a new bench: all zero.
+    #[tactic(auto, unfolding(crate::specs::Strand::new_record))]
     pub fn new() -> Record
         ensures { result ≡ new_record }
     {

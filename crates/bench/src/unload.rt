@@ -9,6 +9,7 @@ use crate::seats::{Changed, Record, Settings};
 use crate::{areas, entry, seats, strands};
 
 // The number that it is refused with, 0 for none.
+#[tactic(auto, unfolding(crate::specs::Calls::done_of, crate::specs::Calls::case_of, crate::specs::Requests::case_at, crate::specs::Strand::strand_of, crate::specs::Calls::lent_long, matrix::specs::System::every))]
 fn unload_number(seats: Record, rest: &[f64], drape: &[f64], pins: &[u8], seat: usize) -> u8
     ensures { result ≡ number_of (call seat unload) (bench_of seats rest.now drape.now pins.now) }
 {
@@ -19,6 +20,7 @@ fn unload_number(seats: Record, rest: &[f64], drape: &[f64], pins: &[u8], seat: 
 }
 
 // Everything that the seat has becomes 0.
+#[tactic(auto, unfolding(crate::specs::Calls::case_of, crate::specs::Requests::case_at, crate::specs::Strand::put_all, crate::specs::Strand::put_strand, crate::specs::Requests::emptied))]
 pub fn unload_value(
     seats: Record,
     rest: &mut [f64],

@@ -10,6 +10,7 @@ use matrix::rows;
 use vectors::vec3::Vec3;
 
 // The way from the position to the working copy, over the time dt; a pinned velocity is kept.
+#[tactic(auto, unfolding(crate::specs::Step::velocity_after))]
 fn velocity_after(dt: f64, pin: u8, velocity: f64, copy: f64, position: f64) -> f64
     ensures { result ≡ velocity_after dt pin velocity copy position }
 {
@@ -35,6 +36,7 @@ fn vertex_velocity(drape: &[f64], pins: &[u8], copy: Vec3, dt: f64, i: usize) ->
 
 // The velocities of n vertices, whose working copy stands at `copy`, become the numbers of `work`
 // from `to` on.
+#[tactic(auto, unfolding(crate::specs::Step::velocities_after))]
 pub(crate) fn stage_velocities(
     work: &mut [f64],
     to: usize,

@@ -46,6 +46,7 @@ fn picked(flag: u8, vertex: usize, goal: Vec3) -> Pick
     Pick::At(vertex, goal)
 }
 
+#[tactic(auto, unfolding(bench::specs::Answers::step_numbers, bench::specs::Answers::numbers_told))]
 fn told(a: StepAnswer) -> Report
     ensures { result ≡ report_of (reported a) }
 {

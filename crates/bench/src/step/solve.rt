@@ -12,6 +12,7 @@ use matrix::{conjugate_gradient, pins};
 const ITERATIONS: usize = 1000;
 
 // Pins act on the system in the work area, and it is solved there.
+#[tactic(auto, unfolding(crate::specs::Step::solved, matrix::specs::System::system_at))]
 pub(crate) fn solve(work: &mut [f64], pins: &[u8], n: usize, tolerance: f64) -> Solve
     requires le_n { (2 ≤ n) × (n ≤ 32) }
     requires n_in_bounds { 4 * n ≤ length pins.now }

@@ -1,0 +1,15 @@
+-- The invariant: the first i vectors are stored.
+use Prim.Native.Nat.{ℕ, ◌+◌, ◌-◌, ◌*◌, ◌≤◌}
+use native.Mathlib.Omega.{arith}
+use Rattle.matrix.specs.HairSystem.{vec3_at}
+use Rattle.matrix.proofs.RowLaws.{Stored3, stored_none, stored_more, stored_all}
+use Rattle.matrix.proofs.Shapes.{vec3_at_lem}
+use Rattle.bench.specs.Areas.{place_positions, place_velocities, place_working_copy}
+use Rattle.bench.specs.Step.{positions_in, velocities_in, working_copy_in, predicted_vec3, predicted_copy}
+use Rattle.bench.proofs.prediction.predict.Given as goal
+
+abbrev pub invariant-loop-i : goal.invariant-loop-i
+invariant-loop-i l = (l.i ≤ l.n) × Stored3 l.initial.work l.work l.at (λ (k : ℕ). predicted_vec3 l.dt l.pins (4 * k) (vec3_at (positions_in l.n l.drape) k) (vec3_at (velocities_in l.n l.drape) k) (vec3_at (working_copy_in l.n l.drape) k)) l.i
+
+abbrev pub decreases-loop-i : goal.decreases-loop-i
+decreases-loop-i l = l.n - l.i
