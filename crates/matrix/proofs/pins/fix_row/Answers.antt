@@ -22,16 +22,10 @@ loop-j-init c =
     let l = before_le k in
     (omega arith, (omega arith, rw b (fixed_first c.args.n c.args.pins.now (columns_before k (k - before k)) _ (no_column c.args.n k c.requires.i_lt_n))))
 
-pub fix_block-requires : goal.fix_block-requires
-fix_block-requires c =
-    let l = c.loop-j in
+pub fix_block-requires-clause-near : goal.fix_block-requires-clause-near
+fix_block-requires-clause-near c =
     let e = c.count_after.ensures in
-    record {
-      le_n = c.requires.le_n;
-      near = column_inside c.args.n c.args.i c.requires.i_lt_n l.j l.invariant.0 (omega arith);
-      n_in_bounds = search rules;
-      work_len = l.invariant.1.1.long ∙ c.requires.work_len;
-    }
+    column_inside c.args.n c.args.i c.requires.i_lt_n c.loop-j.j c.loop-j.invariant.0 (omega arith)
 
 pub overflow_add-j : goal.overflow_add-j
 overflow_add-j c = omega (arith, c.loop-j-test.true, c.count_after.ensures, after_le c.args.n c.args.i c.requires.i_lt_n)

@@ -7,9 +7,6 @@ use Rattle.matrix.proofs.pins.set_fixed_bc.Goals as goal
 pub loop-i-init : goal.loop-i-init
 loop-i-init c = (omega arith, fixed_first c.args.n c.args.pins.now (λ p q. ltb p 0) _ (λ i j near. le-ltb i 0 (omega arith)))
 
-pub fix_row-requires : goal.fix_row-requires
-fix_row-requires c = record { le_n = c.requires.le_n; i_lt_n = search rules; n_in_bounds = c.requires.n_in_bounds; work_len = c.loop-i.invariant.1.long ∙ c.requires.work_len }
-
 pub loop-i-preserved : goal.loop-i-preserved
 loop-i-preserved c =
     let l = c.loop-i in
