@@ -32,7 +32,7 @@ step_tracks x u a i j (laid g last always) q =
 pub story_append : (i j : ℕ) (t : Story) (es fs : List Event) → story i j t (es ++ fs) ≡ story i j (story i j t es) fs
 unfolding story
 story_append i j t [] fs = refl
-story_append i j t (e ∷ es) fs = story_append i j _ es fs
+story_append i j t (e ∷ es) fs = story_append i j (next i j t e) es fs
 
 pub stays_by : (i j : ℕ) (t : Story) (x : Strand) → Tracks i j t x → i < x.count → j < 3 → StaysIfPinned t (position i j x.drape)
 stays_by i j empty x q u v = omega arith

@@ -1,0 +1,27 @@
+-- The first i numbers of the list are stored.
+use Prim.Native.Nat.{ℕ, ◌+◌, ◌-◌}
+use mathlib.Core.Path.{◌≡◌, refl, sym, ap, ◌∙◌}
+use mathlib.Core.List.{List}
+use native.Mathlib.Numerals.{add-one}
+use native.Mathlib.Omega.{arith}
+use lib.ListN.{length, get_or, set, length-set}
+use lib.Ieee.{Float, nan}
+use Rattle.matrix.specs.Parts.{put, table}
+use Rattle.matrix.proofs.Parts.{put_none, put_more, table_of}
+use Rattle.bench.proofs.parts.store.Goals as goal
+
+pub loop-i-init : goal.loop-i-init
+unfolding table
+loop-i-init c = (omega arith, sym (put_none _ _), refl)
+
+pub loop-i-preserved : goal.loop-i-preserved
+loop-i-preserved c =
+    let l = c.loop-i in
+    let a = c.args in
+    (omega arith, ap (λ (w : List Float). set w (a.at + l.i) (get_or a.list.now l.i nan)) l.invariant.1 ∙ put_more a.area.now a.at l.i (λ k. get_or a.list.now k nan) ∙ ap (λ (n : ℕ). put a.area.now a.at (table n (λ k. get_or a.list.now k nan))) (sym (add-one l.i)), simp length-set l.invariant.2)
+
+pub returns : goal.returns
+returns c =
+    let a = c.args in
+    let e : c.loop-i.i ≡ length a.list.now = omega arith in
+    c.loop-i.invariant.1 ∙ ap (put a.area.now a.at) (rw e (table_of nan a.list.now))
