@@ -18,7 +18,7 @@ loop-i-preserved c =
     let a = c.args in
     let l = c.loop-i in
     let p = a.positions.now in
-    (omega arith, rw (l.invariant.1, c.edge_fits.ensures, vec3_at_lem p 0 a.n l.i (3 * l.i) (omega arith) (omega arith), vec3_at_lem p 0 a.n (l.i + 1) (3 * l.i + 3) (omega arith) (omega arith)) (sym (every_more _ l.i _)))
+    (omega arith, rw (l.invariant.1, c.edge_fits-all.ensures, vec3_at_lem p 0 a.n l.i (3 * l.i) (omega arith) (omega arith), vec3_at_lem p 0 a.n (l.i + 1) (3 * l.i + 3) (omega arith) (omega arith)) (sym (every_more _ l.i _)))
 
 pub returns : goal.returns
 unfolding edges_fit

@@ -18,7 +18,7 @@ loop-i-init c = (omega arith, refl)
 pub loop-i-preserved : goal.loop-i-preserved
 loop-i-preserved c =
     let l = c.loop-i in
-    (omega arith, rw (l.invariant.1, c.is_finite.ensures) (sym (every_more is_finite l.i _)))
+    (omega arith, rw (l.invariant.1, c.is_finite-all.ensures) (sym (every_more is_finite l.i _)))
 
 pub returns : goal.returns
 returns c =

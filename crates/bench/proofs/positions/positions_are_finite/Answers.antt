@@ -22,7 +22,7 @@ loop-i-preserved c =
     let l = c.loop-i in
     let p = c.load3-p.ensures ∙ vec3_at_lem a.drape.now place_positions a.n l.i (3 * l.i) (omega arith) (omega arith) in
     let w = c.load3-c.ensures ∙ vec3_at_lem a.work.now a.copy a.n l.i (a.copy + 3 * l.i) (omega arith) (omega arith) in
-    (omega arith, rw (l.invariant.1, c.vec3_is_finite.ensures, c.vec3_unless_pinned.ensures, p, w) (sym (every_more vec3_is_finite l.i _)))
+    (omega arith, rw (l.invariant.1, c.vec3_is_finite-all.ensures, c.vec3_unless_pinned.ensures, p, w) (sym (every_more vec3_is_finite l.i _)))
 
 pub returns : goal.returns
 unfolding positions_after

@@ -1,4 +1,5 @@
 -- The velocities and the working copy are stored right behind positions and frames.
+use Rattle.std.proofs.Common.{arith}
 use Rattle.bench.proofs.Padded.{laid_drape}
 use Rattle.bench.proofs.strands.lay_drape.Goals as goal
 

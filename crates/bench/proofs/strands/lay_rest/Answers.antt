@@ -1,4 +1,5 @@
 -- The second list is stored right behind the first.
+use Rattle.std.proofs.Common.{arith}
 use Rattle.bench.proofs.Padded.{laid_rest}
 use Rattle.bench.proofs.strands.lay_rest.Goals as goal
 
