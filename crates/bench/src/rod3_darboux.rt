@@ -110,7 +110,6 @@ fn turn_edge(
 }
 
 // Every frame whose twist is not pinned turns; the answer is whether 10 declines none.
-#[tactic(auto, unfolding(matrix::specs::System::every, matrix::specs::Parts::table))]
 fn turn_frames(area: &mut [f64], xyz: usize, framex: usize, u: usize, pins: &[u8], n: usize) -> bool
     requires le_n { 1 ≤ n }
     requires n_in_bounds { xyz + 3 * n ≤ length area.old }
@@ -133,7 +132,6 @@ fn turn_frames(area: &mut [f64], xyz: usize, framex: usize, u: usize, pins: &[u8
 }
 
 // Where the solution at u moves vertex i; a pinned coordinate stays.
-#[tactic(auto, unfolding(crate::specs::Update::moved_at))]
 fn moved(area: &[f64], xyz: usize, u: usize, pins: &[u8], n: usize, i: usize) -> Vec3
     requires i_lt_n { i < n }
     requires n_in_bounds { xyz + 3 * n ≤ length area.now }
@@ -152,7 +150,6 @@ fn moved(area: &[f64], xyz: usize, u: usize, pins: &[u8], n: usize, i: usize) ->
 }
 
 // Every vertex moves against the solution at u.
-#[tactic(auto, unfolding(crate::specs::Update::moved_at))]
 fn move_vertices(area: &mut [f64], xyz: usize, u: usize, pins: &[u8], n: usize)
     requires n_in_bounds { xyz + 3 * n ≤ length area.old }
     requires n_in_bounds_2 { u + 4 * n ≤ length area.old }
