@@ -16,7 +16,6 @@ use crate::answers::{Pick, StepAnswer};
 use crate::seats::Settings;
 
 // A static step: the drape's shape moves towards rest, against the pick.
-#[tactic(auto, unfolding(crate::specs::Step::shape_by, crate::specs::Step::drape_after))]
 pub(crate) fn update_static(
     rest: &[f64],
     drape: &mut [f64],
@@ -44,7 +43,6 @@ pub(crate) fn update_static(
 }
 
 // A dynamic step: the strand moves on for the time dt.
-#[tactic(auto, unfolding(crate::specs::Step::shape_by, crate::specs::Step::drape_after))]
 pub(crate) fn update_dynamic(
     rest: &[f64],
     drape: &mut [f64],

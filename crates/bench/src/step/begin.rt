@@ -22,7 +22,6 @@ pub(crate) struct Begun {
 }
 
 // The drape's shape is staged.
-#[tactic(auto, unfolding(matrix::specs::Parts::part))]
 fn stage_drape(work: &mut [f64], drape: &[f64], n: usize)
     requires n_bound { n ≤ 32 }
     requires drape_len { length drape.now ≡ drape_part }
@@ -35,7 +34,6 @@ fn stage_drape(work: &mut [f64], drape: &[f64], n: usize)
 }
 
 // The predicted working copy is staged, and the drape's frames, orthonormalised along it.
-#[tactic(auto, unfolding(matrix::specs::Parts::part, crate::specs::Step::predicted_shape))]
 fn stage_prediction(work: &mut [f64], drape: &[f64], pins: &[u8], n: usize, dt: f64)
     requires le_n { (2 ≤ n) × (n ≤ 32) }
     requires drape_len { length drape.now ≡ drape_part }
@@ -53,7 +51,6 @@ fn stage_prediction(work: &mut [f64], drape: &[f64], pins: &[u8], n: usize, dt: 
 }
 
 // Whether 7 does not decline the staged positions.
-#[tactic(auto, unfolding(matrix::specs::Parts::part, matrix::specs::HairSystem::staged_shape))]
 fn staged_edges_fit(work: &[f64], n: usize) -> bool
     requires le_n { (2 ≤ n) × (n ≤ 32) }
     requires work_len { length work.now ≡ work_numbers }
@@ -78,7 +75,6 @@ fn add_picked(work: &mut [f64], n: usize, pick: Pick)
 }
 
 // The staged shape's system, with the pick; the answer is its energy, without the pick's.
-#[tactic(auto, unfolding(crate::specs::Step::energy_of, crate::specs::Step::picked_system, matrix::specs::Parts::part))]
 fn assemble(work: &mut [f64], rest: &[f64], n: usize, settings: Settings, pick: Pick) -> f64
     requires le_n { (2 ≤ n) × (n ≤ 32) }
     requires pick_value { pick_fits n pick ≡ true }
@@ -106,7 +102,6 @@ fn assemble(work: &mut [f64], rest: &[f64], n: usize, settings: Settings, pick: 
 }
 
 // A static step begins with the drape's shape.
-#[tactic(auto, unfolding(crate::specs::Step::begun_with, crate::specs::Step::timed))]
 pub(crate) fn begin_static(
     work: &mut [f64],
     rest: &[f64],
@@ -137,7 +132,6 @@ pub(crate) fn begin_static(
 }
 
 // A dynamic step begins with the predicted shape, and its system has inertia.
-#[tactic(auto, unfolding(crate::specs::Step::begun_with, crate::specs::Step::timed))]
 pub(crate) fn begin_dynamic(
     work: &mut [f64],
     rest: &[f64],

@@ -22,7 +22,6 @@ pub(crate) fn solution_is_finite(work: &[f64], n: usize, ratio: f64) -> bool
 }
 
 // The staged shape moves by the solution; the answer is whether 10 does not decline it.
-#[tactic(auto, unfolding(matrix::specs::HairSystem::staged_shape))]
 pub(crate) fn update(work: &mut [f64], pins: &[u8], n: usize) -> bool
     requires le_n { (2 ≤ n) × (n ≤ 32) }
     requires pins_len { length pins.now ≡ pin_part }

@@ -17,7 +17,6 @@ use matrix::area;
 use matrix::conjugate_gradient::Solve;
 
 // Whether 11 does not decline what a dynamic step would leave; its velocities are staged.
-#[tactic(auto, unfolding(matrix::specs::Parts::part))]
 fn dynamic_is_finite(work: &[f64], drape: &[f64], pins: &[u8], n: usize) -> bool
     requires n_bound { n ≤ 32 }
     requires drape_len { length drape.now ≡ drape_part }
@@ -47,7 +46,6 @@ fn stage_dynamic(work: &mut [f64], drape: &[f64], pins: &[u8], n: usize, dt: f64
 }
 
 // The staged shape, velocities and working copy become the drape's; a pinned position stays.
-#[tactic(auto, unfolding(matrix::specs::Parts::part))]
 fn copy_dynamic(drape: &mut [f64], work: &[f64], pins: &[u8], n: usize)
     requires n_bound { n ≤ 32 }
     requires drape_len { length drape.old ≡ drape_part }
@@ -71,7 +69,6 @@ fn copy_dynamic(drape: &mut [f64], work: &[f64], pins: &[u8], n: usize)
 }
 
 // A dynamic step ends.
-#[tactic(auto, unfolding(crate::specs::Step::outcome_is_finite))]
 pub(crate) fn finish_dynamic(
     work: &mut [f64],
     drape: &mut [f64],

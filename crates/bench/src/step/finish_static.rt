@@ -16,7 +16,6 @@ use matrix::area;
 use matrix::conjugate_gradient::Solve;
 
 // Whether 11 does not decline what a static step would leave: the velocities are the drape's.
-#[tactic(auto, unfolding(matrix::specs::Parts::part))]
 fn static_is_finite(work: &[f64], drape: &[f64], n: usize) -> bool
     requires n_bound { n ≤ 32 }
     requires drape_len { length drape.now ≡ drape_part }
@@ -30,7 +29,6 @@ fn static_is_finite(work: &[f64], drape: &[f64], n: usize) -> bool
 }
 
 // The staged shape becomes the drape's.
-#[tactic(auto, unfolding(matrix::specs::Parts::part))]
 fn copy_static(drape: &mut [f64], work: &[f64], n: usize)
     requires n_bound { n ≤ 32 }
     requires drape_len { length drape.old ≡ drape_part }
@@ -43,7 +41,6 @@ fn copy_static(drape: &mut [f64], work: &[f64], n: usize)
 }
 
 // A static step ends.
-#[tactic(auto, unfolding(crate::specs::Step::outcome_is_finite))]
 pub(crate) fn finish_static(
     work: &mut [f64],
     drape: &mut [f64],

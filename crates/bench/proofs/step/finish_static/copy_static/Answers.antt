@@ -1,0 +1,13 @@
+-- The staged numbers are those of the staged vectors.
+use Rattle.std.proofs.Common.{◌*◌, rules}
+use native.Mathlib.Nat.{add-sub_cancel_left}
+use Rattle.matrix.specs.Parts.{part}
+use Rattle.matrix.specs.Area.{place_positions, place_frames}
+use Rattle.bench.proofs.Finishing.{copied_static}
+use Rattle.bench.proofs.step.finish_static.copy_static.Goals as goal
+
+pub returns : goal.returns
+unfolding part
+returns c =
+    let a = c.args in
+    rw (c.store-2.ensures, c.store.ensures, add-sub_cancel_left place_positions (3 * a.n), add-sub_cancel_left place_frames (3 * a.n), copied_static a.work.now a.drape.now a.n (search rules) (search rules) (search rules))
