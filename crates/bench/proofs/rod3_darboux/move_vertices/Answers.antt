@@ -1,6 +1,6 @@
 -- A turn of the loop stores one position more. Its own and the solution are read as at the start.
 use Rattle.std.proofs.Common.{◌∙◌, arith}
-use Rattle.matrix.proofs.Widths.{stored_none, stored_more, stored_all, rows_unstored_as}
+use Rattle.matrix.proofs.Widths.{stored_none, stored_more, rows_unstored_as}
 use Rattle.matrix.proofs.RowWidths.{four}
 use Rattle.bench.specs.Update.{moved_at}
 use Rattle.bench.proofs.EdgeLaws.{own_vector}
@@ -17,6 +17,3 @@ loop-i-preserved c =
     let own = own_vector s a.n c.loop-i-test.true in
     let solution = rows_unstored_as four s a.u a.n (λ j p q x y. c.requires.apart j x (omega arith) p q) in
     record { within = omega arith; stored = stored_more s c.store3.ensures (c.moved-p.ensures ∙ rw (own, solution)) }
-
-pub returns : goal.returns
-returns c = stored_all c.loop-i.invariant.stored (omega arith)

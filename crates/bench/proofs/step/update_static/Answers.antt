@@ -1,5 +1,4 @@
 -- The parts are put together; a step that does not begin leaves the drape.
-use Rattle.std.proofs.Common.{◌∙◌}
 use Rattle.bench.specs.Strand.{strand}
 use Rattle.bench.specs.Step.{still, shape_by, drape_after}
 use Rattle.bench.proofs.Composed.{report_declined, drape_declined, report_on, drape_on_lem}
@@ -26,6 +25,6 @@ returns c =
     let f = c.finish_static.ensures in
     let z = c.if-b-ne0.false in
     record {
-      value = f.value ∙ report_on t a.pick still _ _ _ b z _ _ s.work_unchanged s.ratio_after;
-      drape_after = f.drape_after ∙ drape_on_lem t a.pick still _ _ _ b z _ _ s.work_unchanged s.ratio_after;
+      value = rw f.value (report_on t a.pick still _ _ _ b z _ _ s.work_unchanged s.ratio_after);
+      drape_after = rw f.drape_after (drape_on_lem t a.pick still _ _ _ b z _ _ s.work_unchanged s.ratio_after);
     }
