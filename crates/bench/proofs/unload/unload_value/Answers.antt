@@ -1,0 +1,36 @@
+-- A refused call leaves everything; an accepted one leaves the empty strand.
+use Rattle.std.proofs.Common.{refl}
+use Rattle.bench.specs.Strand.{put_strand, put_all}
+use Rattle.bench.specs.Requests.{emptied, case_at}
+use Rattle.bench.specs.Calls.{case_of}
+use Rattle.bench.proofs.Entered.{call_declined, call_done, entered}
+use Rattle.bench.proofs.unload.unload_value.Goals as goal
+
+pub returns-then-k-ne0-clause-refusal_value : goal.returns-then-k-ne0-clause-refusal_value
+returns-then-k-ne0-clause-refusal_value c = (call_declined _ _ _ c.unload_number-k.ensures c.if-k-ne0.true).0
+
+pub returns-then-k-ne0-clause-pins_after : goal.returns-then-k-ne0-clause-pins_after
+returns-then-k-ne0-clause-pins_after c = (call_declined _ _ _ c.unload_number-k.ensures c.if-k-ne0.true).1
+
+pub clear-requires : goal.clear-requires
+clear-requires c =
+    let h = entered _ _ _ _ _ c.unload_number-k.ensures c.if-k-ne0.false in
+    record {
+      seat_lt_seats = h.seat;
+      rest_len = h.areas.rest refl;
+      drape_len = h.areas.drape refl;
+      pins_len = h.areas.pins refl;
+    }
+
+pub seated-requires : goal.seated-requires
+seated-requires c = (entered _ _ _ _ _ c.unload_number-k.ensures c.if-k-ne0.false).seat
+
+pub returns-clause-refusal_value : goal.returns-clause-refusal_value
+unfolding case_of case_at
+returns-clause-refusal_value c = (call_done _ _ _ c.unload_number-k.ensures c.if-k-ne0.false).0
+
+pub returns-clause-pins_after : goal.returns-clause-pins_after
+unfolding case_of case_at put_all put_strand emptied
+returns-clause-pins_after c =
+    let w = c.clear.ensures in
+    rw (w.rest_after, w.drape_after, w.pins_after, c.seated.ensures, c.zero.ensures) (call_done _ _ _ c.unload_number-k.ensures c.if-k-ne0.false).1
