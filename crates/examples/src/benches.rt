@@ -4,9 +4,10 @@ ghost use Rattle.std.specs.Prelude.{◌≤◌};
 use crate::print;
 use bench::seats::{Record, Settings};
 use bench::{areas, load, look, pin};
+use std::io;
 use vectors::vec3::Vec3;
 
-#[derive(Drop)]
+#[derive(Clone, Copy)]
 pub struct Bench {
     pub record: Record,
     pub rest: [f64; areas::REST],
@@ -15,7 +16,7 @@ pub struct Bench {
 }
 
 // What a call makes of a bench, and the number that it is refused with, 0 for none.
-#[derive(Drop)]
+#[derive(Clone, Copy)]
 pub struct After {
     pub bench: Bench,
     pub refusal: u8,
@@ -66,15 +67,27 @@ pub fn pin(mut b: Bench, seat: usize, vertex: usize, component: usize, byte: u8)
 }
 
 // The vector at a place among the numbers that a look hands back.
-pub fn show_look(what: &[u8], b: Bench, seat: usize, kind: usize, at: usize)
+pub fn show_look(
+    rt: &impl Print,
+    what: &[u8],
+    b: Bench,
+    seat: usize,
+    kind: usize,
+    at: usize,
+) -> io::Result<()>
     requires { at ≤ 3 }
 {
     let rest = b.rest;
     let drape = b.drape;
-    show_three(what, look::look(b.record, &rest, &drape, seat, kind), at);
+    show_three(
+        rt,
+        what,
+        look::look(b.record, &rest, &drape, seat, kind),
+        at,
+    )
 }
 
-fn show_three(what: &[u8], numbers: &[f64], at: usize)
+fn show_three(rt: &impl Print, what: &[u8], numbers: &[f64], at: usize) -> io::Result<()>
     requires { at ≤ 3 }
 {
     if at + 3 <= numbers.len() {
@@ -83,6 +96,7 @@ fn show_three(what: &[u8], numbers: &[f64], at: usize)
             y: numbers[at + 1],
             z: numbers[at + 2],
         };
-        print::vector(what, v);
+        print::vector(rt, what, v)?;
     }
+    Ok(())
 }

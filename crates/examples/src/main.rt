@@ -1,7 +1,10 @@
 // Runs document 01's examples and the bench's calls through the compiled code and writes what comes
 // out, each f64 as the hexadecimal digits of its bits.
+#![tactic(auto)]
+
 use elements::rod3_darboux::Rod;
 use elements::{rod3_darboux, spring3};
+use std::io;
 use vectors::mat3::Mat3;
 use vectors::vec3::Vec3;
 
@@ -14,43 +17,43 @@ mod stay;
 mod steps;
 mod strands;
 
-fn main() {
-    show_root(4.0);
-    show_root(2.0);
-    show_root(5e-324);
-    show_root(-0.0);
-    show_root(0.0);
-    show_root(1.0 / 0.0);
-    show_root(-1.0);
-    show_root(0.0 / 0.0);
-    show_stretch();
-    show_darboux();
-    seats::show();
-    stay::show();
-    steps::show();
-    moves::show();
+fn main(rt: HostRuntime) -> io::Result<()> {
+    show_root(&rt, 4.0)?;
+    show_root(&rt, 2.0)?;
+    show_root(&rt, 5e-324)?;
+    show_root(&rt, -0.0)?;
+    show_root(&rt, 0.0)?;
+    show_root(&rt, 1.0 / 0.0)?;
+    show_root(&rt, -1.0)?;
+    show_root(&rt, 0.0 / 0.0)?;
+    show_stretch(&rt)?;
+    show_darboux(&rt)?;
+    seats::show(&rt)?;
+    stay::show(&rt)?;
+    steps::show(&rt)?;
+    moves::show(&rt)
 }
 
 // The root of x beside x.
-fn show_root(x: f64) {
-    print::float(b"root ", x);
-    print::float(b" = ", roots::sqrt(x));
-    print::end();
+fn show_root(rt: &impl Print, x: f64) -> io::Result<()> {
+    print::float(rt, b"root ", x)?;
+    print::float(rt, b" = ", roots::sqrt(x))?;
+    print::end(rt)
 }
 
 // P5: the ends are 0 and (2, 0, 0), the length at rest and the stiffness 1.
-fn show_stretch() {
+fn show_stretch(rt: &impl Print) -> io::Result<()> {
     let s = spring3::wdwddw_squared_length_difference(
         1.0,
         at(0.0, 0.0, 0.0),
         at(2.0, 0.0, 0.0),
         1.0,
     );
-    print::float(b"stretch energy ", s.w);
-    print::vector(b"\nstretch gradient", s.dw0);
-    print::vector(b"\nstretch gradient", s.dw1);
-    print::vector(b"\nstretch diagonal", diagonal(s.same));
-    print::end();
+    print::float(rt, b"stretch energy ", s.w)?;
+    print::vector(rt, b"\nstretch gradient", s.dw0)?;
+    print::vector(rt, b"\nstretch gradient", s.dw1)?;
+    print::vector(rt, b"\nstretch diagonal", diagonal(s.same))?;
+    print::end(rt)
 }
 
 fn diagonal(m: Mat3) -> Vec3 {
@@ -62,7 +65,7 @@ fn at(x: f64, y: f64, z: f64) -> Vec3 {
 }
 
 // P6: a right angle, both frames across it.
-fn show_darboux() {
+fn show_darboux(rt: &impl Print) -> io::Result<()> {
     let up = at(0.0, 0.0, 1.0);
     let rod = Rod {
         p0: at(0.0, 0.0, 0.0),
@@ -71,6 +74,6 @@ fn show_darboux() {
         x0: up,
         x1: up,
     };
-    print::vector(b"darboux vector", rod3_darboux::darboux_rod(rod));
-    print::end();
+    print::vector(rt, b"darboux vector", rod3_darboux::darboux_rod(rod))?;
+    print::end(rt)
 }

@@ -3,30 +3,32 @@ use crate::run;
 use crate::run::{Kind, RATIO, Run, WORK};
 use bench::answers::Pick;
 use bench::areas;
+use std::io;
 
-pub fn show() {
-    free(b"dynamic step: dt NaN", 0.0 / 0.0);
-    free(b"dynamic step: dt infinite", 1.0 / 0.0);
-    free(b"dynamic step: dt -1", -1.0);
-    free(b"dynamic step: dt 0", 0.0);
-    free(b"dynamic step: dt -0", -0.0);
-    show_moves();
+pub fn show(rt: &impl Print) -> io::Result<()> {
+    free(rt, b"dynamic step: dt NaN", 0.0 / 0.0)?;
+    free(rt, b"dynamic step: dt infinite", 1.0 / 0.0)?;
+    free(rt, b"dynamic step: dt -1", -1.0)?;
+    free(rt, b"dynamic step: dt 0", 0.0)?;
+    free(rt, b"dynamic step: dt -0", -0.0)?;
+    show_moves(rt)
 }
 
-fn show_moves() {
-    free(b"dynamic step: dt 1/32, no pick", 0.03125);
+fn show_moves(rt: &impl Print) -> io::Result<()> {
+    free(rt, b"dynamic step: dt 1/32, no pick", 0.03125)?;
     let half = run::pick(1, 0.5, 0.0);
-    moved(b"dynamic step: dt 0.5, goal 0.5", 0.5, half, true);
+    moved(rt, b"dynamic step: dt 0.5, goal 0.5", 0.5, half, true)
 }
 
 // A step without a pick.
-fn free(what: &[u8], dt: f64) {
-    moved(what, dt, Pick::Nothing, false);
+fn free(rt: &impl Print, what: &[u8], dt: f64) -> io::Result<()> {
+    moved(rt, what, dt, Pick::Nothing, false)
 }
 
 // One step, or two with the same pick.
-fn moved(what: &[u8], dt: f64, pick: Pick, again: bool) {
+fn moved(rt: &impl Print, what: &[u8], dt: f64, pick: Pick, again: bool) -> io::Result<()> {
     run::show(
+        rt,
         what,
         Run {
             ratio: RATIO,
@@ -39,5 +41,5 @@ fn moved(what: &[u8], dt: f64, pick: Pick, again: bool) {
             stale: 1.0 / 0.0,
             again,
         },
-    );
+    )
 }

@@ -4,6 +4,7 @@ use crate::{benches, print, strands};
 use bench::answers::{Pick, StepAnswer};
 use bench::seats::{Record, Settings};
 use bench::steps;
+use std::io;
 use vectors::vec3::Vec3;
 
 // Numbers in the work area.
@@ -13,7 +14,7 @@ pub const WORK: usize = 3264;
 pub const RATIO: f64 = 0.0009765625;
 
 // Static, or dynamic with its dt.
-#[derive(Drop)]
+#[derive(Clone, Copy)]
 pub enum Kind {
     Static,
     Dynamic(f64),
@@ -23,7 +24,7 @@ pub enum Kind {
 // step, how many numbers of rest and of work are lent to it, the number that fills the work area before,
 // and whether a second step follows, before which the opposite fills it. It is never finite, since it
 // must not matter.
-#[derive(Drop)]
+#[derive(Clone, Copy)]
 pub struct Run {
     pub ratio: f64,
     pub byte: u8,
@@ -48,12 +49,13 @@ pub fn pick(vertex: usize, x: f64, y: f64) -> Pick {
     Pick::At(vertex, Vec3 { x, y, z: 0.0 })
 }
 
-pub fn show(what: &[u8], r: Run) {
+pub fn show(rt: &impl Print, what: &[u8], r: Run) -> io::Result<()> {
     let held = hold(laid(r.ratio), r.byte);
-    let stepped = once(what, r, held, r.stale);
+    let stepped = once(rt, what, r, held, r.stale)?;
     if r.again {
-        once(b"dynamic step: again", r, stepped, -r.stale);
+        once(rt, b"dynamic step: again", r, stepped, -r.stale)?;
     }
+    Ok(())
 }
 
 // A new bench with the strand on seat 0.
@@ -85,15 +87,15 @@ fn hold(b: Bench, byte: u8) -> Bench {
 }
 
 // What a step answers, and where it leaves vertex 1.
-fn once(what: &[u8], r: Run, b: Bench, stale: f64) -> Bench {
+fn once(rt: &impl Print, what: &[u8], r: Run, b: Bench, stale: f64) -> io::Result<Bench> {
     let out = stepped(r, b, stale);
     let answer = out.answer;
     let bench = out.bench;
-    io::write_all(1, what);
-    show_answer(answer);
-    benches::show_look(b", vertex 1", bench, 0, 2, 3);
-    print::end();
-    bench
+    rt.write_all(what)?;
+    show_answer(rt, answer)?;
+    benches::show_look(rt, b", vertex 1", bench, 0, 2, 3)?;
+    print::end(rt)?;
+    Ok(bench)
 }
 
 // The step, with a work area of stale numbers.
@@ -132,19 +134,17 @@ fn step(
     }
 }
 
-fn show_answer(answer: StepAnswer) {
+fn show_answer(rt: &impl Print, answer: StepAnswer) -> io::Result<()> {
     match answer {
         StepAnswer::Accepted {
             energy,
             ratio,
             count,
         } => {
-            print::float(b" = 0, energy ", energy);
-            print::number(b", count ", count);
-            print::float(b", ratio ", ratio);
+            print::float(rt, b" = 0, energy ", energy)?;
+            print::number(rt, b", count ", count)?;
+            print::float(rt, b", ratio ", ratio)
         }
-        StepAnswer::Refused(k) => {
-            print::number(b" = ", k as usize);
-        }
+        StepAnswer::Refused(k) => print::number(rt, b" = ", k as usize),
     }
 }

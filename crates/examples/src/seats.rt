@@ -5,19 +5,26 @@ use crate::{benches, print, strands};
 use bench::areas::{DRAPE, PINS, REST};
 use bench::load;
 use bench::seats::Record;
+use std::io;
 
-pub fn show() {
-    show_counts();
-    show_seats();
-    show_lengths();
-    show_records();
-    show_lists();
-    show_numbers();
-    show_edges();
+pub fn show(rt: &impl Print) -> io::Result<()> {
+    show_counts(rt)?;
+    show_seats(rt)?;
+    show_lengths(rt)?;
+    show_records(rt)?;
+    show_lists(rt)?;
+    show_numbers(rt)?;
+    show_edges(rt)
 }
 
 // A load of n vertices, with this many numbers of positions and of frames.
-fn listed(what: &[u8], n: usize, positions: usize, frames: usize) {
+fn listed(
+    rt: &impl Print,
+    what: &[u8],
+    n: usize,
+    positions: usize,
+    frames: usize,
+) -> io::Result<()> {
     let xs = strands::row(0, 1.0);
     let fs = strands::row(1, 0.0);
     let out = benches::load(
@@ -28,23 +35,29 @@ fn listed(what: &[u8], n: usize, positions: usize, frames: usize) {
         strands::first(&xs, positions),
         strands::first(&fs, frames),
     );
-    print::answer(what, out.refusal);
+    print::answer(rt, what, out.refusal)
 }
 
-fn show_counts() {
-    listed(b"load of 1 vertex", 1, 3, 3);
-    listed(b"load of 33 vertices", 33, 99, 99);
-    listed(b"load of 32 vertices", 32, 96, 96);
-    listed(b"load of 2 vertices", 2, 6, 6);
+fn show_counts(rt: &impl Print) -> io::Result<()> {
+    listed(rt, b"load of 1 vertex", 1, 3, 3)?;
+    listed(rt, b"load of 33 vertices", 33, 99, 99)?;
+    listed(rt, b"load of 32 vertices", 32, 96, 96)?;
+    listed(rt, b"load of 2 vertices", 2, 6, 6)
 }
 
-fn show_lists() {
-    listed(b"load of positions one short", 2, 5, 6);
-    listed(b"load of frames one short", 2, 6, 5);
+fn show_lists(rt: &impl Print) -> io::Result<()> {
+    listed(rt, b"load of positions one short", 2, 5, 6)?;
+    listed(rt, b"load of frames one short", 2, 6, 5)
 }
 
 // A load on the seat, where seat 3 has a count and a stiffness.
-fn seated(what: &[u8], seat: usize, count: usize, stiffness: f64) {
+fn seated(
+    rt: &impl Print,
+    what: &[u8],
+    seat: usize,
+    count: usize,
+    stiffness: f64,
+) -> io::Result<()> {
     let mut record = Record::new();
     record.counts[3] = count;
     record.settings[3] = strands::settings(stiffness, 0.5);
@@ -58,25 +71,25 @@ fn seated(what: &[u8], seat: usize, count: usize, stiffness: f64) {
         &strands::PAIR,
         &strands::FRAMES,
     );
-    print::answer(what, out.refusal);
+    print::answer(rt, what, out.refusal)
 }
 
-fn show_seats() {
-    seated(b"load on seat 6", 6, 0, 0.0);
-    seated(b"load on seat 5", 5, 0, 0.0);
-    seated(b"load on a taken seat", 3, 2, 1.0);
+fn show_seats(rt: &impl Print) -> io::Result<()> {
+    seated(rt, b"load on seat 6", 6, 0, 0.0)?;
+    seated(rt, b"load on seat 5", 5, 0, 0.0)?;
+    seated(rt, b"load on a taken seat", 3, 2, 1.0)
 }
 
-fn show_records() {
-    seated(b"load beside count 1", 0, 1, 1.0);
-    seated(b"load on seat 6 beside count 1", 6, 1, 1.0);
-    seated(b"load beside count 33", 0, 33, 1.0);
-    seated(b"load beside a taken seat's NaN", 0, 2, 0.0 / 0.0);
-    seated(b"load beside an empty seat's NaN", 0, 0, 0.0 / 0.0);
+fn show_records(rt: &impl Print) -> io::Result<()> {
+    seated(rt, b"load beside count 1", 0, 1, 1.0)?;
+    seated(rt, b"load on seat 6 beside count 1", 6, 1, 1.0)?;
+    seated(rt, b"load beside count 33", 0, 33, 1.0)?;
+    seated(rt, b"load beside a taken seat's NaN", 0, 2, 0.0 / 0.0)?;
+    seated(rt, b"load beside an empty seat's NaN", 0, 0, 0.0 / 0.0)
 }
 
 // A load into areas of these lengths.
-fn lent(what: &[u8], rest: usize, drape: usize, pins: usize)
+fn lent(rt: &impl Print, what: &[u8], rest: usize, drape: usize, pins: usize) -> io::Result<()>
     requires rest_bound { rest ≤ 1153 }
     requires drape_bound { drape ≤ 2305 }
     requires pins_bound { pins ≤ 769 }
@@ -95,42 +108,50 @@ fn lent(what: &[u8], rest: usize, drape: usize, pins: usize)
         &strands::PAIR,
         &strands::FRAMES,
     );
-    print::answer(what, out.refusal);
+    print::answer(rt, what, out.refusal)
 }
 
-fn show_lengths() {
-    lent(b"load with rest one short", REST - 1, DRAPE, PINS);
-    lent(b"load with rest one long", REST + 1, DRAPE, PINS);
-    lent(b"load with drape one short", REST, DRAPE - 1, PINS);
-    lent(b"load with drape one long", REST, DRAPE + 1, PINS);
-    lent(b"load with pins one short", REST, DRAPE, PINS - 1);
-    lent(b"load with pins one long", REST, DRAPE, PINS + 1);
+fn show_lengths(rt: &impl Print) -> io::Result<()> {
+    lent(rt, b"load with rest one short", REST - 1, DRAPE, PINS)?;
+    lent(rt, b"load with rest one long", REST + 1, DRAPE, PINS)?;
+    lent(rt, b"load with drape one short", REST, DRAPE - 1, PINS)?;
+    lent(rt, b"load with drape one long", REST, DRAPE + 1, PINS)?;
+    lent(rt, b"load with pins one short", REST, DRAPE, PINS - 1)?;
+    lent(rt, b"load with pins one long", REST, DRAPE, PINS + 1)
 }
 
 // A load of two vertices, x apart, with f as the last number of the frames.
-fn pair(what: &[u8], x: f64, f: f64, stiffness: f64, ratio: f64) {
+fn pair(
+    rt: &impl Print,
+    what: &[u8],
+    x: f64,
+    f: f64,
+    stiffness: f64,
+    ratio: f64,
+) -> io::Result<()> {
     let positions = [0.0, 0.0, 0.0, x, 0.0, 0.0];
     let frames = [0.0, 1.0, 0.0, 0.0, 1.0, f];
     let settings = strands::settings(stiffness, ratio);
     let out = benches::load(benches::new(), 0, 2, settings, &positions, &frames);
-    print::answer(what, out.refusal);
+    print::answer(rt, what, out.refusal)
 }
 
-fn show_numbers() {
-    pair(b"load of a NaN position", 0.0 / 0.0, 0.0, 1.0, 0.5);
+fn show_numbers(rt: &impl Print) -> io::Result<()> {
+    pair(rt, b"load of a NaN position", 0.0 / 0.0, 0.0, 1.0, 0.5)?;
     pair(
+        rt,
         b"load of an infinite frame number",
         1.0,
         1.0 / 0.0,
         1.0,
         0.5,
-    );
-    pair(b"load with stiffness -1", 1.0, 0.0, -1.0, 0.5);
-    pair(b"load with stiffness -0", 1.0, 0.0, -0.0, 0.5);
-    pair(b"load with ratio NaN", 1.0, 0.0, 1.0, 0.0 / 0.0);
+    )?;
+    pair(rt, b"load with stiffness -1", 1.0, 0.0, -1.0, 0.5)?;
+    pair(rt, b"load with stiffness -0", 1.0, 0.0, -0.0, 0.5)?;
+    pair(rt, b"load with ratio NaN", 1.0, 0.0, 1.0, 0.0 / 0.0)
 }
 
-fn show_edges() {
-    pair(b"load of vertices at one place", 0.0, 0.0, 1.0, 0.5);
-    pair(b"load of vertices 1e200 apart", 1e200, 0.0, 1.0, 0.5);
+fn show_edges(rt: &impl Print) -> io::Result<()> {
+    pair(rt, b"load of vertices at one place", 0.0, 0.0, 1.0, 0.5)?;
+    pair(rt, b"load of vertices 1e200 apart", 1e200, 0.0, 1.0, 0.5)
 }

@@ -5,7 +5,7 @@ use bench::seats::Record;
 use bench::{load, look, pin, unload};
 
 // The record after a call, and whether the answer is the stored one.
-#[derive(Drop)]
+#[derive(Clone, Copy)]
 pub struct Made {
     pub seats: Record,
     pub same: bool,

@@ -4,7 +4,7 @@ use crate::{areas, garbage, line, numbers, record, shape};
 use bench::seats::Record;
 
 // What a line came to.
-#[derive(Drop)]
+#[derive(Clone, Copy)]
 pub enum Verdict {
     Same,
     // The answer differs.

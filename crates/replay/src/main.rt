@@ -1,5 +1,10 @@
 // Runs the calls of the file `calls` on the proved bench and compares each with what the reference
 // answered and changed; README.md has the file's format.
+#![tactic(auto)]
+
+use std::fs::File;
+use std::io;
+
 mod areas;
 mod calls;
 mod changes;
@@ -17,18 +22,15 @@ mod tally;
 mod turn;
 mod words;
 
-fn main() {
-    let fd = os::open_read(b"calls");
-    if fd < 0 {
-        os::fail(b"calls");
-        return;
+fn main(rt: HostRuntime) -> io::Result<()> {
+    match File::open(&rt, "calls") {
+        Ok(file) => replay(&rt, &file),
+        Err(error) => eprintln!(rt; "calls: {error}"),
     }
-    replay(fd);
-    libc::close(fd);
 }
 
 // The expected record and areas begin as those of a new bench.
-fn replay(fd: i32) {
+fn replay(rt: &impl Print, file: &File) -> io::Result<()> {
     let mut expected = [0u64; areas::ALL];
-    report::show(run::run(fd, &mut expected));
+    report::show(rt, run::run(file, &mut expected)?)
 }

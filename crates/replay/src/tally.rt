@@ -3,7 +3,7 @@ use crate::judge::Verdict;
 
 // Calls made and calls that differ, the line and the verdict of the first of these, and how the list
 // came to its end: the line where that is malformed, 0 where it is not.
-#[derive(Drop)]
+#[derive(Clone, Copy)]
 pub struct Tally {
     pub calls: u64,
     pub differ: u64,

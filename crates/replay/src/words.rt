@@ -1,8 +1,12 @@
 // From text to words: hexadecimal numbers, one line at a time.
 ghost use Rattle.std.specs.Prelude.{◌≤◌};
 
+use std::fs::File;
+use std::io;
+use std::os::unix::fs::FileExt;
+
 // A word's number and where it ends; a word that ends where it begins is none.
-#[derive(Drop)]
+#[derive(Clone, Copy)]
 pub struct Word {
     pub value: u64,
     pub end: usize,
@@ -10,7 +14,7 @@ pub struct Word {
 
 // How many words a line has, 0 where it is malformed or the text ends in it, where the next begins, and
 // whether the text ends there.
-#[derive(Drop)]
+#[derive(Clone, Copy)]
 pub struct Line {
     pub count: usize,
     pub next: usize,
@@ -91,23 +95,22 @@ fn read_line(text: &[u8], words: &mut [u64]) -> Line {
 }
 
 // A place of a file, which is far below what fits.
-fn offset(place: usize) -> i64 {
+fn offset(place: usize) -> u64 {
     if place < 0x7fff_ffff_ffff_ffff {
-        return place as i64;
+        return place as u64;
     }
     0
 }
 
 // The line that begins at a place of the file, into the words. It is read from there anew, since an
 // array that holds the whole file is longer than the checker takes. No line is longer than the buffer.
-pub fn line_at(fd: i32, place: usize, words: &mut [u64]) -> Line {
-    let mut text = io::large_buffer();
-    let got = libc::pread(fd, &mut text, offset(place));
-    let n = io::count(got, &text);
+pub fn line_at(file: &File, place: usize, words: &mut [u64]) -> io::Result<Line> {
+    let mut text = [0u8; 65536];
+    let n = file.read_at(&mut text, offset(place))?;
     let read = read_line(&text[..n], words);
-    Line {
+    Ok(Line {
         count: read.count,
         next: std::num::wrapping_add_usize(place, read.next),
         is_last: read.is_last,
-    }
+    })
 }
