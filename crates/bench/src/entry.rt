@@ -22,7 +22,6 @@ fn seat_number(seats: Record, long: bool, seat: usize) -> u8
 }
 
 // 1, 2 or 3, of a call that wants an empty seat.
-#[tactic(auto, unfolding(crate::specs::Calls::seat_rows))]
 pub(crate) fn vacant_number(seats: Record, long: bool, seat: usize) -> u8
     ensures { result ≡ first (seat_rows long (seat ∷ []) seats ++ (vacant (get_or seats.counts seat 0) ∷ [])) }
 {
@@ -38,7 +37,6 @@ pub(crate) fn vacant_number(seats: Record, long: bool, seat: usize) -> u8
 }
 
 // 1, 2 or 3, of a call that wants a strand.
-#[tactic(auto, unfolding(crate::specs::Calls::seat_rows))]
 pub(crate) fn taken_number(seats: Record, long: bool, seat: usize) -> u8
     ensures { result ≡ first (seat_rows long (seat ∷ []) seats ++ (taken (get_or seats.counts seat 0) ∷ [])) }
 {

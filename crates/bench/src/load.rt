@@ -64,7 +64,6 @@ fn load_number(
 }
 
 // The whole of the seat's parts is written; the strand's working copy is its rest shape, too.
-#[tactic(auto, unfolding(crate::specs::Calls::case_of, crate::specs::Requests::case_at, crate::specs::Strand::put_all, crate::specs::Strand::put_strand, crate::specs::Requests::loaded_on))]
 pub fn load_value(
     seats: Record,
     rest: &mut [f64],

@@ -33,7 +33,6 @@ pub fn companion(seats: Record, rest: &[f64], drape: &[f64], seat: usize, kind: 
 
 // The numbers of the seat's strand that the kind stands for: 0 rest positions, 1 rest frames, 2 drape
 // positions, 3 drape frames, 4 velocities; none where the look is refused.
-#[tactic(auto, unfolding(matrix::specs::Parts::part))]
 pub fn look<'a>(
     seats: Record,
     rest: &'a [f64],

@@ -15,7 +15,6 @@ use crate::seats::{Record, Settings};
 use crate::{areas, asked, step};
 
 // A static step of the seat's strand, which has n vertices and the settings g.
-#[tactic(auto, unfolding(matrix::specs::Parts::part))]
 fn static_on(
     rest: &[f64],
     drape: &mut [f64],
@@ -51,7 +50,6 @@ fn static_on(
 }
 
 // A static step of the seat's strand: its shape moves towards rest, against pins and pick.
-#[tactic(auto, unfolding(crate::specs::Step::time_fits, crate::specs::Strand::strand_of))]
 pub fn update_static(
     seats: Record,
     rest: &[f64],
@@ -85,7 +83,6 @@ pub fn update_static(
 }
 
 // A dynamic step of the seat's strand, which has n vertices and the settings g.
-#[tactic(auto, unfolding(matrix::specs::Parts::part))]
 fn dynamic_on(
     rest: &[f64],
     drape: &mut [f64],
@@ -123,7 +120,6 @@ fn dynamic_on(
 }
 
 // A dynamic step of the seat's strand: it moves on for the time dt.
-#[tactic(auto, unfolding(crate::specs::Strand::strand_of))]
 pub fn update_dynamic(
     seats: Record,
     rest: &[f64],

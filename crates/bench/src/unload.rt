@@ -20,7 +20,6 @@ fn unload_number(seats: Record, rest: &[f64], drape: &[f64], pins: &[u8], seat: 
 }
 
 // Everything that the seat has becomes 0.
-#[tactic(auto, unfolding(crate::specs::Calls::case_of, crate::specs::Requests::case_at, crate::specs::Strand::put_all, crate::specs::Strand::put_strand, crate::specs::Requests::emptied))]
 pub fn unload_value(
     seats: Record,
     rest: &mut [f64],

@@ -6,10 +6,13 @@ use Rattle.bench.specs.Areas.{rest_part, drape_part, pin_part}
 use Rattle.bench.proofs.PutBack.{put_back}
 use Rattle.bench.proofs.steps.static_on.Goals as goal
 
-pub returns-clause-drape_after : goal.returns-clause-drape_after
+pub returns : goal.returns
 unfolding part
-returns-clause-drape_after c =
+returns c =
     let a = c.args in
     let z : (k m : ℕ) → k * a.seat + m - k * a.seat ≡ m = λ k m. add-sub_cancel_left (k * a.seat) m in
-    let e = rw (z rest_part rest_part, z drape_part drape_part, z pin_part pin_part) at c.update_static.ensures.drape_after in
-    rw (z drape_part drape_part) (put_back a.drape.now (drape_part * a.seat) drape_part _ (search rules) (search rules) ∙ ap (put a.drape.now (drape_part * a.seat)) e)
+    let e = rw (z rest_part rest_part, z drape_part drape_part, z pin_part pin_part) at c.update_static.ensures in
+    record {
+      value = e.value;
+      drape_after = rw (z drape_part drape_part) (put_back a.drape.now (drape_part * a.seat) drape_part _ (search rules) (search rules) ∙ ap (put a.drape.now (drape_part * a.seat)) e.drape_after);
+    }
