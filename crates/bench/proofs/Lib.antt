@@ -1,7 +1,6 @@
 -- The laws behind the crate's theorems.
 pub mod RowLaws
 pub mod EveryNumber
-pub mod Left
 pub mod Padded
 pub mod GoodSeats
 pub mod EntryRows

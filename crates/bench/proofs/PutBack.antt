@@ -8,7 +8,7 @@ use Rattle.matrix.specs.Parts.{put}
 
 module _ {A : Type 0} where
   back : (w : List A) (a : ℕ) (y : List A) → a + length y ≤ length w → take a w ++ (y ++ drop (length y) (drop a w)) ≡ put w a y
-  unfolding put take drop
+  unfolding put
   back [] zero [] h = refl
   back [] (suc a) [] h = refl
   back [] a (c ∷ y) h = absurd (omega arith)
