@@ -85,7 +85,7 @@ fn edge_fits(positions: &[f64], i: usize) -> bool
 #[tactic(auto, unfolding(matrix::specs::System::every, matrix::specs::Parts::table, crate::specs::Given::edges_fit))]
 pub(crate) fn edges_fit(positions: &[f64], n: usize) -> bool
     requires le_n { 1 ≤ n }
-    requires n_in_bounds { 3 * n ≤ length positions.now }
+    requires positions_long { 3 * n ≤ length positions.now }
     ensures { result ≡ edges_fit n (rows3 positions.now 0 n) }
 {
     let mut all = true;

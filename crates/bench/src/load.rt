@@ -75,8 +75,8 @@ pub fn load_value(
     positions: &[f64],
     frames: &[f64],
 ) -> Changed
-    ensures refusal_value { said result.refusal ≡ answer_of (call seat (load (load_of n settings positions.now frames.now))) (bench_of seats rest.old drape.old pins.old) }
-    ensures pins_after { bench_of result.seats rest.new drape.new pins.new ≡ after_of (call seat (load (load_of n settings positions.now frames.now))) (bench_of seats rest.old drape.old pins.old) }
+    ensures answer { said result.refusal ≡ answer_of (call seat (load (load_of n settings positions.now frames.now))) (bench_of seats rest.old drape.old pins.old) }
+    ensures after { bench_of result.seats rest.new drape.new pins.new ≡ after_of (call seat (load (load_of n settings positions.now frames.now))) (bench_of seats rest.old drape.old pins.old) }
 {
     let k = load_number(
         seats,
@@ -111,8 +111,8 @@ pub fn load(
     positions: &[f64],
     frames: &[f64],
 ) -> u8
-    ensures result_value { said result ≡ answer_of (call seat (load (load_of n settings positions.now frames.now))) (bench_of seats.old rest.old drape.old pins.old) }
-    ensures pins_after { bench_of seats.new rest.new drape.new pins.new ≡ after_of (call seat (load (load_of n settings positions.now frames.now))) (bench_of seats.old rest.old drape.old pins.old) }
+    ensures answer { said result ≡ answer_of (call seat (load (load_of n settings positions.now frames.now))) (bench_of seats.old rest.old drape.old pins.old) }
+    ensures after { bench_of seats.new rest.new drape.new pins.new ≡ after_of (call seat (load (load_of n settings positions.now frames.now))) (bench_of seats.old rest.old drape.old pins.old) }
 {
     let out = load_value(
         *seats, rest, drape, pins, seat, n, settings, positions, frames,

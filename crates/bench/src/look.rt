@@ -25,8 +25,8 @@ fn look_number(seats: Record, rest: &[f64], drape: &[f64], seat: usize, kind: us
 
 // What the look with the same inputs is refused with, 0 for none.
 pub fn companion(seats: Record, rest: &[f64], drape: &[f64], seat: usize, kind: usize) -> u8
-    ensures by_index { (pins : List ℕ) → said result ≡ answer_of (call seat (companion kind)) (bench_of seats rest.now drape.now pins) }
-    ensures by_index_2 { (pins : List ℕ) → bench_of seats rest.now drape.now pins ≡ after_of (call seat (companion kind)) (bench_of seats rest.now drape.now pins) }
+    ensures answer { (pins : List ℕ) → said result ≡ answer_of (call seat (companion kind)) (bench_of seats rest.now drape.now pins) }
+    ensures after { (pins : List ℕ) → bench_of seats rest.now drape.now pins ≡ after_of (call seat (companion kind)) (bench_of seats rest.now drape.now pins) }
 {
     look_number(seats, rest, drape, seat, kind)
 }
@@ -40,8 +40,8 @@ pub fn look<'a>(
     seat: usize,
     kind: usize,
 ) -> &'a [f64]
-    ensures by_index { (pins : List ℕ) → handed result.now ≡ answer_of (call seat (look kind)) (bench_of seats rest.now drape.now pins) }
-    ensures by_index_2 { (pins : List ℕ) → bench_of seats rest.now drape.now pins ≡ after_of (call seat (look kind)) (bench_of seats rest.now drape.now pins) }
+    ensures answer { (pins : List ℕ) → handed result.now ≡ answer_of (call seat (look kind)) (bench_of seats rest.now drape.now pins) }
+    ensures after { (pins : List ℕ) → bench_of seats rest.now drape.now pins ≡ after_of (call seat (look kind)) (bench_of seats rest.now drape.now pins) }
 {
     let k = look_number(seats, rest, drape, seat, kind);
     if k != 0 {

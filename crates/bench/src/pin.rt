@@ -33,8 +33,8 @@ pub fn pin(
     component: usize,
     byte: u8,
 ) -> u8
-    ensures result_value { (rest drape : List Float) → said result ≡ answer_of (call seat (pin vertex component byte)) (bench_of seats rest drape pins.old) }
-    ensures pins_after { (rest drape : List Float) → bench_of seats rest drape pins.new ≡ after_of (call seat (pin vertex component byte)) (bench_of seats rest drape pins.old) }
+    ensures answer { (rest drape : List Float) → said result ≡ answer_of (call seat (pin vertex component byte)) (bench_of seats rest drape pins.old) }
+    ensures after { (rest drape : List Float) → bench_of seats rest drape pins.new ≡ after_of (call seat (pin vertex component byte)) (bench_of seats rest drape pins.old) }
 {
     let k = pin_number(seats, &pins[..], seat, vertex, component);
     if k != 0 {

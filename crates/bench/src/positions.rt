@@ -22,9 +22,9 @@ pub(crate) fn positions_are_finite(
     n: usize,
 ) -> bool
     requires n_bound { n ≤ 32 }
-    requires n_in_bounds { copy + 3 * n ≤ length work.now }
+    requires copy_in_work { copy + 3 * n ≤ length work.now }
     requires drape_len { length drape.now ≡ drape_part }
-    requires n_in_bounds_2 { 4 * n ≤ length pins.now }
+    requires pins_long { 4 * n ≤ length pins.now }
     ensures { result ≡ every is_finite (flat3 (positions_after n pins.now drape.now (rows3 work.now copy n))) }
 {
     let mut all = true;
@@ -42,9 +42,9 @@ pub(crate) fn positions_are_finite(
 #[tactic(auto, unfolding(crate::specs::Step::positions_after))]
 pub(crate) fn store_positions(drape: &mut [f64], work: &[f64], copy: usize, pins: &[u8], n: usize)
     requires n_bound { n ≤ 32 }
-    requires n_in_bounds { copy + 3 * n ≤ length work.now }
+    requires copy_in_work { copy + 3 * n ≤ length work.now }
     requires drape_len { length drape.old ≡ drape_part }
-    requires n_in_bounds_2 { 4 * n ≤ length pins.now }
+    requires pins_long { 4 * n ≤ length pins.now }
     ensures { drape.new ≡ put drape.old place_positions (flat3 (positions_after n pins.now drape.old (rows3 work.now copy n))) }
 {
     let mut i = 0;

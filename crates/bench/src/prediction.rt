@@ -39,9 +39,9 @@ fn predicted_vertex(drape: &[f64], pins: &[u8], dt: f64, i: usize) -> Vec3
 #[tactic(auto, unfolding(crate::specs::Step::predicted_copy))]
 pub(crate) fn predict(work: &mut [f64], at: usize, drape: &[f64], pins: &[u8], n: usize, dt: f64)
     requires n_bound { n ≤ 32 }
-    requires n_in_bounds { at + 3 * n ≤ length work.old }
+    requires at_in_work { at + 3 * n ≤ length work.old }
     requires drape_len { length drape.now ≡ drape_part }
-    requires n_in_bounds_2 { 4 * n ≤ length pins.now }
+    requires pins_long { 4 * n ≤ length pins.now }
     ensures { work.new ≡ put work.old at (flat3 (predicted_copy dt n pins.now drape.now)) }
 {
     let mut i = 0;

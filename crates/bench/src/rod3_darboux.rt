@@ -20,7 +20,7 @@ const LEAST_TURN: f64 = 9.5367431640625e-7;
 // The edge from vertex i to the next.
 fn edge(area: &[f64], xyz: usize, n: usize, i: usize) -> Vec3
     requires i_bound { i + 1 < n }
-    requires n_in_bounds { xyz + 3 * n ≤ length area.now }
+    requires xyz_in_area { xyz + 3 * n ≤ length area.now }
     ensures { result ≡ edge_at (rows3 area.now xyz n) i }
 {
     let p0 = rows::load3(area, xyz + 3 * i);
@@ -31,8 +31,8 @@ fn edge(area: &[f64], xyz: usize, n: usize, i: usize) -> Vec3
 // The frame of edge i, made a unit vector across the edge.
 fn orthonormal(area: &[f64], framex: usize, xyz: usize, n: usize, i: usize) -> Vec3
     requires i_bound { i + 1 < n }
-    requires n_in_bounds { framex + 3 * n ≤ length area.now }
-    requires n_in_bounds_2 { xyz + 3 * n ≤ length area.now }
+    requires framex_in_area { framex + 3 * n ≤ length area.now }
+    requires xyz_in_area { xyz + 3 * n ≤ length area.now }
     ensures { result ≡ vec3_normalize (vec3_orthogonalize (edge_at (rows3 area.now xyz n) i) (vec3_at (rows3 area.now framex n) i)) }
 {
     let z = edge(area, xyz, n, i);
@@ -43,8 +43,8 @@ fn orthonormal(area: &[f64], framex: usize, xyz: usize, n: usize, i: usize) -> V
 // Every edge's frame becomes a unit vector across the edge; the last vertex has no edge.
 pub(crate) fn orthonormalize_framex_for_hair(area: &mut [f64], framex: usize, xyz: usize, n: usize)
     requires le_n { 1 ≤ n }
-    requires n_in_bounds { framex + 3 * n ≤ length area.old }
-    requires n_in_bounds_2 { xyz + 3 * n ≤ length area.old }
+    requires framex_in_area { framex + 3 * n ≤ length area.old }
+    requires xyz_in_area { xyz + 3 * n ≤ length area.old }
     requires apart { Apart framex (3 * n) xyz (3 * n) }
     ensures { area.new ≡ put area.old framex (flat3 (orthonormalize_framex_for_hair n (rows3 area.old xyz n) (rows3 area.old framex n))) }
 {
@@ -66,9 +66,9 @@ fn turned_frame(
     i: usize,
 ) -> TurnedFrame
     requires i_bound { i + 1 < n }
-    requires n_in_bounds { xyz + 3 * n ≤ length area.now }
-    requires n_in_bounds_2 { framex + 3 * n ≤ length area.now }
-    requires n_in_bounds_3 { u + 4 * n ≤ length area.now }
+    requires xyz_in_area { xyz + 3 * n ≤ length area.now }
+    requires framex_in_area { framex + 3 * n ≤ length area.now }
+    requires u_in_area { u + 4 * n ≤ length area.now }
     ensures { result ≡ turn_at (shape (rows3 area.now xyz n) (rows3 area.now framex n)) (rows4 area.now u n) i }
 {
     let z = edge(area, xyz, n, i);
@@ -94,10 +94,10 @@ fn turn_edge(
     i: usize,
 ) -> bool
     requires i_bound { i + 1 < n }
-    requires n_in_bounds { xyz + 3 * n ≤ length area.old }
-    requires n_in_bounds_2 { framex + 3 * n ≤ length area.old }
-    requires n_in_bounds_3 { u + 4 * n ≤ length area.old }
-    requires n_in_bounds_4 { 4 * n ≤ length pins.now }
+    requires xyz_in_area { xyz + 3 * n ≤ length area.old }
+    requires framex_in_area { framex + 3 * n ≤ length area.old }
+    requires u_in_area { u + 4 * n ≤ length area.old }
+    requires pins_long { 4 * n ≤ length pins.now }
     ensures value { result ≡ turn_fits n pins.now (shape (rows3 area.old xyz n) (rows3 area.old framex n)) (rows4 area.old u n) i }
     ensures area_after { area.new ≡ put area.old (framex + 3 * i) (numbers3 (cond (is_turned n pins.now i) (turn_at (shape (rows3 area.old xyz n) (rows3 area.old framex n)) (rows4 area.old u n) i).x (vec3_at (rows3 area.old framex n) i))) }
 {
@@ -112,12 +112,12 @@ fn turn_edge(
 // Every frame whose twist is not pinned turns; the answer is whether 10 declines none.
 fn turn_frames(area: &mut [f64], xyz: usize, framex: usize, u: usize, pins: &[u8], n: usize) -> bool
     requires le_n { 1 ≤ n }
-    requires n_in_bounds { xyz + 3 * n ≤ length area.old }
-    requires n_in_bounds_2 { framex + 3 * n ≤ length area.old }
-    requires n_in_bounds_3 { u + 4 * n ≤ length area.old }
-    requires n_in_bounds_4 { 4 * n ≤ length pins.now }
-    requires apart { Apart framex (3 * n) xyz (3 * n) }
-    requires apart_2 { Apart framex (3 * n) u (4 * n) }
+    requires xyz_in_area { xyz + 3 * n ≤ length area.old }
+    requires framex_in_area { framex + 3 * n ≤ length area.old }
+    requires u_in_area { u + 4 * n ≤ length area.old }
+    requires pins_long { 4 * n ≤ length pins.now }
+    requires framex_apart_from_xyz { Apart framex (3 * n) xyz (3 * n) }
+    requires framex_apart_from_u { Apart framex (3 * n) u (4 * n) }
     ensures value { result ≡ turns_fit n pins.now (shape (rows3 area.old xyz n) (rows3 area.old framex n)) (rows4 area.old u n) }
     ensures area_after { area.new ≡ put area.old framex (flat3 (turned_frames n pins.now (shape (rows3 area.old xyz n) (rows3 area.old framex n)) (rows4 area.old u n))) }
 {
@@ -134,9 +134,9 @@ fn turn_frames(area: &mut [f64], xyz: usize, framex: usize, u: usize, pins: &[u8
 // Where the solution at u moves vertex i; a pinned coordinate stays.
 fn moved(area: &[f64], xyz: usize, u: usize, pins: &[u8], n: usize, i: usize) -> Vec3
     requires i_lt_n { i < n }
-    requires n_in_bounds { xyz + 3 * n ≤ length area.now }
-    requires n_in_bounds_2 { u + 4 * n ≤ length area.now }
-    requires n_in_bounds_3 { 4 * n ≤ length pins.now }
+    requires xyz_in_area { xyz + 3 * n ≤ length area.now }
+    requires u_in_area { u + 4 * n ≤ length area.now }
+    requires pins_long { 4 * n ≤ length pins.now }
     ensures { result ≡ moved_at pins.now (rows3 area.now xyz n) (rows4 area.now u n) i }
 {
     let p = rows::load3(area, xyz + 3 * i);
@@ -151,9 +151,9 @@ fn moved(area: &[f64], xyz: usize, u: usize, pins: &[u8], n: usize, i: usize) ->
 
 // Every vertex moves against the solution at u.
 fn move_vertices(area: &mut [f64], xyz: usize, u: usize, pins: &[u8], n: usize)
-    requires n_in_bounds { xyz + 3 * n ≤ length area.old }
-    requires n_in_bounds_2 { u + 4 * n ≤ length area.old }
-    requires n_in_bounds_3 { 4 * n ≤ length pins.now }
+    requires xyz_in_area { xyz + 3 * n ≤ length area.old }
+    requires u_in_area { u + 4 * n ≤ length area.old }
+    requires pins_long { 4 * n ≤ length pins.now }
     requires apart { Apart xyz (3 * n) u (4 * n) }
     ensures { area.new ≡ put area.old xyz (flat3 (table n (moved_at pins.now (rows3 area.old xyz n) (rows4 area.old u n)))) }
 {
@@ -176,13 +176,13 @@ pub(crate) fn update_solution_hair(
     n: usize,
 ) -> bool
     requires le_n { 2 ≤ n }
-    requires n_in_bounds { xyz + 3 * n ≤ length area.old }
-    requires n_in_bounds_2 { framex + 3 * n ≤ length area.old }
-    requires n_in_bounds_3 { u + 4 * n ≤ length area.old }
-    requires n_in_bounds_4 { 4 * n ≤ length pins.now }
-    requires apart { Apart framex (3 * n) xyz (3 * n) }
-    requires apart_2 { Apart framex (3 * n) u (4 * n) }
-    requires apart_3 { Apart xyz (3 * n) u (4 * n) }
+    requires xyz_in_area { xyz + 3 * n ≤ length area.old }
+    requires framex_in_area { framex + 3 * n ≤ length area.old }
+    requires u_in_area { u + 4 * n ≤ length area.old }
+    requires pins_long { 4 * n ≤ length pins.now }
+    requires framex_apart_from_xyz { Apart framex (3 * n) xyz (3 * n) }
+    requires framex_apart_from_u { Apart framex (3 * n) u (4 * n) }
+    requires xyz_apart_from_u { Apart xyz (3 * n) u (4 * n) }
     ensures value { result ≡ turns_fit n pins.now (shape (rows3 area.old xyz n) (rows3 area.old framex n)) (rows4 area.old u n) }
     ensures area_after { area.new ≡ put (put area.old framex (flat3 (update_solution_hair n pins.now (shape (rows3 area.old xyz n) (rows3 area.old framex n)) (rows4 area.old u n)).frames)) xyz (flat3 (update_solution_hair n pins.now (shape (rows3 area.old xyz n) (rows3 area.old framex n)) (rows4 area.old u n)).positions) }
 {

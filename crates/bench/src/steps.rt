@@ -59,9 +59,9 @@ pub fn update_static(
     seat: usize,
     pick: Pick,
 ) -> StepAnswer
-    ensures result_value { reported result ≡ answer_of (call_with work.old seat (step pick still)) (bench_of seats rest.now drape.old pins.now) }
-    ensures result_value_2 { step_numbers result ≡ numbers_told (answer_of (call_with work.old seat (step pick still)) (bench_of seats rest.now drape.old pins.now)) }
-    ensures pins_after { bench_of seats rest.now drape.new pins.now ≡ after_of (call_with work.old seat (step pick still)) (bench_of seats rest.now drape.old pins.now) }
+    ensures answer { reported result ≡ answer_of (call_with work.old seat (step pick still)) (bench_of seats rest.now drape.old pins.now) }
+    ensures numbers { step_numbers result ≡ numbers_told (answer_of (call_with work.old seat (step pick still)) (bench_of seats rest.now drape.old pins.now)) }
+    ensures after { bench_of seats rest.now drape.new pins.now ≡ after_of (call_with work.old seat (step pick still)) (bench_of seats rest.now drape.old pins.now) }
     ensures leaves_work { LeavesWork (number_of (call_with work.old seat (step pick still)) (bench_of seats rest.now drape.old pins.now)) work.old work.new }
 {
     let k = asked::step_number(seats, rest, &drape[..], pins, &work[..], seat, pick, true);
@@ -130,9 +130,9 @@ pub fn update_dynamic(
     pick: Pick,
     dt: f64,
 ) -> StepAnswer
-    ensures result_value { reported result ≡ answer_of (call_with work.old seat (step pick (over dt))) (bench_of seats rest.now drape.old pins.now) }
-    ensures result_value_2 { step_numbers result ≡ numbers_told (answer_of (call_with work.old seat (step pick (over dt))) (bench_of seats rest.now drape.old pins.now)) }
-    ensures pins_after { bench_of seats rest.now drape.new pins.now ≡ after_of (call_with work.old seat (step pick (over dt))) (bench_of seats rest.now drape.old pins.now) }
+    ensures answer { reported result ≡ answer_of (call_with work.old seat (step pick (over dt))) (bench_of seats rest.now drape.old pins.now) }
+    ensures numbers { step_numbers result ≡ numbers_told (answer_of (call_with work.old seat (step pick (over dt))) (bench_of seats rest.now drape.old pins.now)) }
+    ensures after { bench_of seats rest.now drape.new pins.now ≡ after_of (call_with work.old seat (step pick (over dt))) (bench_of seats rest.now drape.old pins.now) }
     ensures leaves_work { LeavesWork (number_of (call_with work.old seat (step pick (over dt))) (bench_of seats rest.now drape.old pins.now)) work.old work.new }
 {
     let fits = asked::time_fits(dt);

@@ -27,8 +27,8 @@ pub fn unload_value(
     pins: &mut [u8],
     seat: usize,
 ) -> Changed
-    ensures refusal_value { said result.refusal ≡ answer_of (call seat unload) (bench_of seats rest.old drape.old pins.old) }
-    ensures pins_after { bench_of result.seats rest.new drape.new pins.new ≡ after_of (call seat unload) (bench_of seats rest.old drape.old pins.old) }
+    ensures answer { said result.refusal ≡ answer_of (call seat unload) (bench_of seats rest.old drape.old pins.old) }
+    ensures after { bench_of result.seats rest.new drape.new pins.new ≡ after_of (call seat unload) (bench_of seats rest.old drape.old pins.old) }
 {
     let k = unload_number(seats, &rest[..], &drape[..], &pins[..], seat);
     if k != 0 {
@@ -49,8 +49,8 @@ pub fn unload(
     pins: &mut [u8],
     seat: usize,
 ) -> u8
-    ensures result_value { said result ≡ answer_of (call seat unload) (bench_of seats.old rest.old drape.old pins.old) }
-    ensures pins_after { bench_of seats.new rest.new drape.new pins.new ≡ after_of (call seat unload) (bench_of seats.old rest.old drape.old pins.old) }
+    ensures answer { said result ≡ answer_of (call seat unload) (bench_of seats.old rest.old drape.old pins.old) }
+    ensures after { bench_of seats.new rest.new drape.new pins.new ≡ after_of (call seat unload) (bench_of seats.old rest.old drape.old pins.old) }
 {
     let out = unload_value(*seats, rest, drape, pins, seat);
     *seats = out.seats;

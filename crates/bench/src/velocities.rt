@@ -47,11 +47,11 @@ pub(crate) fn stage_velocities(
     dt: f64,
 )
     requires n_bound { n ≤ 32 }
-    requires n_in_bounds { to + 3 * n ≤ length work.old }
-    requires n_in_bounds_2 { copy + 3 * n ≤ length work.old }
+    requires to_in_work { to + 3 * n ≤ length work.old }
+    requires copy_in_work { copy + 3 * n ≤ length work.old }
     requires apart { Apart to (3 * n) copy (3 * n) }
     requires drape_len { length drape.now ≡ drape_part }
-    requires n_in_bounds_3 { 4 * n ≤ length pins.now }
+    requires pins_long { 4 * n ≤ length pins.now }
     ensures { work.new ≡ put work.old to (flat3 (velocities_after dt n pins.now drape.now (rows3 work.old copy n))) }
 {
     let mut i = 0;

@@ -83,8 +83,8 @@ pub extern "C" fn hairbench_load_value(
     positions: &[f64],
     frames: &[f64],
 ) -> Changed
-    ensures refusal_value { said result.refusal ≡ answer_of (call seat (load (load_of n settings positions.now frames.now))) (bench_of «record» rest.old drape.old pins.old) }
-    ensures pins_after { bench_of result.seats rest.new drape.new pins.new ≡ after_of (call seat (load (load_of n settings positions.now frames.now))) (bench_of «record» rest.old drape.old pins.old) }
+    ensures answer { said result.refusal ≡ answer_of (call seat (load (load_of n settings positions.now frames.now))) (bench_of «record» rest.old drape.old pins.old) }
+    ensures after { bench_of result.seats rest.new drape.new pins.new ≡ after_of (call seat (load (load_of n settings positions.now frames.now))) (bench_of «record» rest.old drape.old pins.old) }
 {
     load::load_value(
         record, rest, drape, pins, seat, n, settings, positions, frames,
@@ -100,8 +100,8 @@ pub extern "C" fn hairbench_unload_value(
     pins: &mut [u8],
     seat: usize,
 ) -> Changed
-    ensures refusal_value { said result.refusal ≡ answer_of (call seat unload) (bench_of «record» rest.old drape.old pins.old) }
-    ensures pins_after { bench_of result.seats rest.new drape.new pins.new ≡ after_of (call seat unload) (bench_of «record» rest.old drape.old pins.old) }
+    ensures answer { said result.refusal ≡ answer_of (call seat unload) (bench_of «record» rest.old drape.old pins.old) }
+    ensures after { bench_of result.seats rest.new drape.new pins.new ≡ after_of (call seat unload) (bench_of «record» rest.old drape.old pins.old) }
 {
     unload::unload_value(record, rest, drape, pins, seat)
 }
@@ -116,8 +116,8 @@ pub extern "C" fn hairbench_pin(
     component: usize,
     byte: u8,
 ) -> u8
-    ensures result_value { (rest drape : List Float) → said result ≡ answer_of (call seat (pin vertex component byte)) (bench_of «record» rest drape pins.old) }
-    ensures pins_after { (rest drape : List Float) → bench_of «record» rest drape pins.new ≡ after_of (call seat (pin vertex component byte)) (bench_of «record» rest drape pins.old) }
+    ensures answer { (rest drape : List Float) → said result ≡ answer_of (call seat (pin vertex component byte)) (bench_of «record» rest drape pins.old) }
+    ensures after { (rest drape : List Float) → bench_of «record» rest drape pins.new ≡ after_of (call seat (pin vertex component byte)) (bench_of «record» rest drape pins.old) }
 {
     pin::pin(record, pins, seat, vertex, component, byte)
 }
@@ -131,8 +131,8 @@ pub extern "C" fn hairbench_companion(
     seat: usize,
     kind: usize,
 ) -> u8
-    ensures by_index { (pins : List ℕ) → said result ≡ answer_of (call seat (companion kind)) (bench_of «record» rest.now drape.now pins) }
-    ensures by_index_2 { (pins : List ℕ) → bench_of «record» rest.now drape.now pins ≡ after_of (call seat (companion kind)) (bench_of «record» rest.now drape.now pins) }
+    ensures answer { (pins : List ℕ) → said result ≡ answer_of (call seat (companion kind)) (bench_of «record» rest.now drape.now pins) }
+    ensures after { (pins : List ℕ) → bench_of «record» rest.now drape.now pins ≡ after_of (call seat (companion kind)) (bench_of «record» rest.now drape.now pins) }
 {
     look::companion(record, rest, drape, seat, kind)
 }
@@ -147,8 +147,8 @@ pub extern "C" fn hairbench_look(
     seat: usize,
     kind: usize,
 ) -> Place
-    ensures by_index { (pins : List ℕ) → result ≡ place_of seat kind (bench_of «record» rest.now drape.now pins) }
-    ensures by_index_2 { (pins : List ℕ) → handed (part (looked_at kind rest.now drape.now) result.at result.count) ≡ answer_of (call seat (look kind)) (bench_of «record» rest.now drape.now pins) }
+    ensures place { (pins : List ℕ) → result ≡ place_of seat kind (bench_of «record» rest.now drape.now pins) }
+    ensures part { (pins : List ℕ) → handed (part (looked_at kind rest.now drape.now) result.at result.count) ≡ answer_of (call seat (look kind)) (bench_of «record» rest.now drape.now pins) }
 {
     let k = look::companion(record, rest, drape, seat, kind);
     if k != 0 {
@@ -187,8 +187,8 @@ pub extern "C" fn hairbench_step_static(
     y: f64,
     z: f64,
 ) -> Report
-    ensures value { result ≡ report_of (answer_of (call_with work.old seat (step (pick_of flag vertex (vec3 x y z)) still)) (bench_of «record» rest.now drape.old pins.now)) }
-    ensures pins_after { bench_of «record» rest.now drape.new pins.now ≡ after_of (call_with work.old seat (step (pick_of flag vertex (vec3 x y z)) still)) (bench_of «record» rest.now drape.old pins.now) }
+    ensures answer { result ≡ report_of (answer_of (call_with work.old seat (step (pick_of flag vertex (vec3 x y z)) still)) (bench_of «record» rest.now drape.old pins.now)) }
+    ensures after { bench_of «record» rest.now drape.new pins.now ≡ after_of (call_with work.old seat (step (pick_of flag vertex (vec3 x y z)) still)) (bench_of «record» rest.now drape.old pins.now) }
     ensures leaves_work { LeavesWork (number_of (call_with work.old seat (step (pick_of flag vertex (vec3 x y z)) still)) (bench_of «record» rest.now drape.old pins.now)) work.old work.new }
 {
     let pick = picked(flag, vertex, Vec3 { x, y, z });
@@ -212,8 +212,8 @@ pub extern "C" fn hairbench_step_dynamic(
     z: f64,
     dt: f64,
 ) -> Report
-    ensures value { result ≡ report_of (answer_of (call_with work.old seat (step (pick_of flag vertex (vec3 x y z)) (over dt))) (bench_of «record» rest.now drape.old pins.now)) }
-    ensures pins_after { bench_of «record» rest.now drape.new pins.now ≡ after_of (call_with work.old seat (step (pick_of flag vertex (vec3 x y z)) (over dt))) (bench_of «record» rest.now drape.old pins.now) }
+    ensures answer { result ≡ report_of (answer_of (call_with work.old seat (step (pick_of flag vertex (vec3 x y z)) (over dt))) (bench_of «record» rest.now drape.old pins.now)) }
+    ensures after { bench_of «record» rest.now drape.new pins.now ≡ after_of (call_with work.old seat (step (pick_of flag vertex (vec3 x y z)) (over dt))) (bench_of «record» rest.now drape.old pins.now) }
     ensures leaves_work { LeavesWork (number_of (call_with work.old seat (step (pick_of flag vertex (vec3 x y z)) (over dt))) (bench_of «record» rest.now drape.old pins.now)) work.old work.new }
 {
     let pick = picked(flag, vertex, Vec3 { x, y, z });

@@ -21,7 +21,7 @@ pub struct EdgeFrames {
 // The length of the edge from vertex i, of the positions at p.
 fn length_at(xyz: &[f64], p: usize, n: usize, i: usize) -> f64
     requires i_bound { i + 1 < n }
-    requires n_in_bounds { p + 3 * n ≤ length xyz.now }
+    requires p_in_xyz { p + 3 * n ≤ length xyz.now }
     ensures { result ≡ length_at (rows3 xyz.now p n) i }
 {
     let p0 = rows::load3(xyz, p + 3 * i);
@@ -33,7 +33,7 @@ fn length_at(xyz: &[f64], p: usize, n: usize, i: usize) -> f64
 // The lengths of all edges, of the positions at p, and 0 after them.
 pub fn edge_lengths(xyz: &[f64], p: usize, n: usize) -> [f64; 32]
     requires le_n { (2 ≤ n) × (n ≤ 32) }
-    requires n_in_bounds { p + 3 * n ≤ length xyz.now }
+    requires p_in_xyz { p + 3 * n ≤ length xyz.now }
     ensures { result ≡ edge_lengths (n - 1) (rows3 xyz.now p n) }
 {
     let mut lengths = [0.0; 32];
@@ -56,8 +56,8 @@ fn frame_at(
     len: f64,
 ) -> EdgeFrame
     requires i_bound { i + 1 < n }
-    requires n_in_bounds { p + 3 * n ≤ length xyz.now }
-    requires n_in_bounds_2 { f + 3 * n ≤ length framex.now }
+    requires p_in_xyz { p + 3 * n ≤ length xyz.now }
+    requires f_in_framex { f + 3 * n ≤ length framex.now }
     requires len_value { len ≡ length_at (rows3 xyz.now p n) i }
     ensures { result ≡ frame_at (shape (rows3 xyz.now p n) (rows3 framex.now f n)) i }
 {
@@ -81,8 +81,8 @@ pub fn frames_at(
 ) -> EdgeFrames
     requires i_bound { i + 1 < n }
     requires n_bound { n ≤ 32 }
-    requires n_in_bounds { 3 * n ≤ length rest.now }
-    requires n_in_bounds_2 { 3 * n ≤ length axes.now }
+    requires rest_long { 3 * n ≤ length rest.now }
+    requires axes_long { 3 * n ≤ length axes.now }
     requires work_len { length work.now ≡ work_numbers }
     requires ini_value { ini ≡ length_at (rows3 rest.now 0 n) i }
     requires def_value { def ≡ length_at (rows3 work.now place_positions n) i }

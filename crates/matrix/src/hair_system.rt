@@ -158,8 +158,8 @@ fn add_bends(
     w: f64,
 ) -> f64
     requires le_n { (2 ≤ n) × (n ≤ 32) }
-    requires n_in_bounds { 3 * n ≤ length rest.now }
-    requires n_in_bounds_2 { 3 * n ≤ length axes.now }
+    requires rest_long { 3 * n ≤ length rest.now }
+    requires axes_long { 3 * n ≤ length axes.now }
     requires ini_value { ini.now ≡ edge_lengths (n - 1) (rows3 rest.now 0 n) }
     requires def_value { def.now ≡ edge_lengths (n - 1) (rows3 work.old place_positions n) }
     requires work_len { length work.old ≡ work_numbers }
@@ -203,8 +203,8 @@ pub fn wdwddw_hair_system(
     bendtwist: Vec3,
 ) -> f64
     requires le_n { (2 ≤ n) × (n ≤ 32) }
-    requires n_in_bounds { 3 * n ≤ length rest.now }
-    requires n_in_bounds_2 { 3 * n ≤ length axes.now }
+    requires rest_long { 3 * n ≤ length rest.now }
+    requires axes_long { 3 * n ≤ length axes.now }
     requires work_len { length work.old ≡ work_numbers }
     ensures value { result ≡ hair_energy n (shape (rows3 rest.now 0 n) (rows3 axes.now 0 n)) (staged_shape n work.old) stretch bendtwist }
     ensures work_after { system_at n work.new ≡ hair_system n (shape (rows3 rest.now 0 n) (rows3 axes.now 0 n)) (staged_shape n work.old) stretch bendtwist }

@@ -38,8 +38,8 @@ fn row_unless_fixed(pins: &[u8], at: usize, v: Vec4) -> Vec4
 
 // The vector at `to` gets 0 where the pins of its n vertices pin.
 pub(crate) fn set_fix_dof_to_rhs_vector(work: &mut [f64], to: usize, pins: &[u8], n: usize)
-    requires n_in_bounds { to + 4 * n ≤ length work.old }
-    requires n_in_bounds_2 { 4 * n ≤ length pins.now }
+    requires to_in_work { to + 4 * n ≤ length work.old }
+    requires pins_long { 4 * n ≤ length pins.now }
     ensures { work.new ≡ put work.old to (flat4 (set_fix_dof_to_rhs_vector n pins.now (rows4 work.old to n))) }
 {
     let mut i = 0;
@@ -119,7 +119,7 @@ fn pinned_columns(diagonal: bool) -> Mat4
 fn fix_block(work: &mut [f64], pins: &[u8], n: usize, i: usize, j: usize)
     requires le_n { (2 ≤ n) × (n ≤ 32) }
     requires near { Near n i j }
-    requires n_in_bounds { 4 * n ≤ length pins.now }
+    requires pins_long { 4 * n ≤ length pins.now }
     requires work_len { length work.old ≡ work_numbers }
     ensures work_after { system_at n work.new ≡ fixed_where n pins.now (same_pair i j) (system_at n work.old) }
     ensures work_unchanged { after_vectors work.new ≡ after_vectors work.old }
@@ -134,7 +134,7 @@ fn fix_block(work: &mut [f64], pins: &[u8], n: usize, i: usize, j: usize)
 fn fix_row(work: &mut [f64], pins: &[u8], n: usize, i: usize)
     requires le_n { (2 ≤ n) × (n ≤ 32) }
     requires i_lt_n { i < n }
-    requires n_in_bounds { 4 * n ≤ length pins.now }
+    requires pins_long { 4 * n ≤ length pins.now }
     requires work_len { length work.old ≡ work_numbers }
     ensures work_after { system_at n work.new ≡ fixed_where n pins.now (λ p q. eqb i p) (system_at n work.old) }
     ensures work_unchanged { after_vectors work.new ≡ after_vectors work.old }
@@ -151,7 +151,7 @@ fn fix_row(work: &mut [f64], pins: &[u8], n: usize, i: usize)
 // row and its own column meet. The gradient stays, and so does what stands after the vectors.
 pub(crate) fn set_fixed_bc(work: &mut [f64], pins: &[u8], n: usize)
     requires le_n { (2 ≤ n) × (n ≤ 32) }
-    requires n_in_bounds { 4 * n ≤ length pins.now }
+    requires pins_long { 4 * n ≤ length pins.now }
     requires work_len { length work.old ≡ work_numbers }
     ensures work_after { system_at n work.new ≡ with_fixed n pins.now (system_at n work.old) }
     ensures work_unchanged { after_vectors work.new ≡ after_vectors work.old }
@@ -166,7 +166,7 @@ pub(crate) fn set_fixed_bc(work: &mut [f64], pins: &[u8], n: usize)
 // The whole system of n vertices gets its pins.
 pub fn fix_system(work: &mut [f64], pins: &[u8], n: usize)
     requires le_n { (2 ≤ n) × (n ≤ 32) }
-    requires n_in_bounds { 4 * n ≤ length pins.now }
+    requires pins_long { 4 * n ≤ length pins.now }
     requires work_len { length work.old ≡ work_numbers }
     ensures work_after { system_at n work.new ≡ with_pins n pins.now (system_at n work.old) }
     ensures work_unchanged { after_vectors work.new ≡ after_vectors work.old }

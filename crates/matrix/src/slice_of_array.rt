@@ -30,8 +30,8 @@ pub fn set_zero(work: &mut [f64], to: usize, n: usize)
 // The sum of the rows' products, upward from +0.
 #[tactic(auto, unfolding(crate::specs::SliceOfArray::dot_from, crate::specs::Parts::table, crate::specs::SliceOfArray::dot_rows, crate::specs::Rows::rows4))]
 pub fn dot(work: &[f64], a: usize, b: usize, n: usize) -> f64
-    requires n_in_bounds { a + 4 * n ≤ length work.now }
-    requires n_in_bounds_2 { b + 4 * n ≤ length work.now }
+    requires a_in_work { a + 4 * n ≤ length work.now }
+    requires b_in_work { b + 4 * n ≤ length work.now }
     ensures { result ≡ dot_rows (rows4 work.now a n) (rows4 work.now b n) }
 {
     let mut sum = 0.0;
@@ -45,8 +45,8 @@ pub fn dot(work: &[f64], a: usize, b: usize, n: usize) -> f64
 
 #[tactic(auto, unfolding(crate::specs::Rows::rows4))]
 pub fn copy(work: &mut [f64], to: usize, from: usize, n: usize)
-    requires n_in_bounds { to + 4 * n ≤ length work.old }
-    requires n_in_bounds_2 { from + 4 * n ≤ length work.old }
+    requires to_in_work { to + 4 * n ≤ length work.old }
+    requires from_in_work { from + 4 * n ≤ length work.old }
     requires apart { Apart to (4 * n) from (4 * n) }
     ensures { work.new ≡ put work.old to (flat4 (rows4 work.old from n)) }
 {
@@ -60,8 +60,8 @@ pub fn copy(work: &mut [f64], to: usize, from: usize, n: usize)
 
 // The vector at `to` and alpha times the one at `from`.
 pub fn add_scaled_vector(work: &mut [f64], to: usize, alpha: f64, from: usize, n: usize)
-    requires n_in_bounds { to + 4 * n ≤ length work.old }
-    requires n_in_bounds_2 { from + 4 * n ≤ length work.old }
+    requires to_in_work { to + 4 * n ≤ length work.old }
+    requires from_in_work { from + 4 * n ≤ length work.old }
     requires apart { Apart to (4 * n) from (4 * n) }
     ensures { work.new ≡ put work.old to (flat4 (add_scaled_vector (rows4 work.old to n) alpha (rows4 work.old from n))) }
 {
@@ -76,8 +76,8 @@ pub fn add_scaled_vector(work: &mut [f64], to: usize, alpha: f64, from: usize, n
 
 // As `add_scaled_vector`; answers the dot product of the new vector with itself.
 pub fn add_scaled_and_square(work: &mut [f64], to: usize, alpha: f64, from: usize, n: usize) -> f64
-    requires n_in_bounds { to + 4 * n ≤ length work.old }
-    requires n_in_bounds_2 { from + 4 * n ≤ length work.old }
+    requires to_in_work { to + 4 * n ≤ length work.old }
+    requires from_in_work { from + 4 * n ≤ length work.old }
     requires apart { Apart to (4 * n) from (4 * n) }
     ensures work_after { work.new ≡ put work.old to (flat4 (add_scaled_vector (rows4 work.old to n) alpha (rows4 work.old from n))) }
     ensures value { result ≡ dot_rows (rows4 work.new to n) (rows4 work.new to n) }
@@ -97,8 +97,8 @@ pub fn add_scaled_and_square(work: &mut [f64], to: usize, alpha: f64, from: usiz
 
 // The vector at `from` and beta times the one at `to`, which is written.
 pub fn scale_and_add_vec(work: &mut [f64], to: usize, beta: f64, from: usize, n: usize)
-    requires n_in_bounds { to + 4 * n ≤ length work.old }
-    requires n_in_bounds_2 { from + 4 * n ≤ length work.old }
+    requires to_in_work { to + 4 * n ≤ length work.old }
+    requires from_in_work { from + 4 * n ≤ length work.old }
     requires apart { Apart to (4 * n) from (4 * n) }
     ensures { work.new ≡ put work.old to (flat4 (scale_and_add_vec (rows4 work.old to n) beta (rows4 work.old from n))) }
 {

@@ -36,7 +36,7 @@ fn add_product(m: &[f64], at: usize, x: &[f64], from: usize, s: Vec4) -> Vec4
     requires at_in_bounds { at + 16 ≤ length m.now }
     requires from_in_bounds { from + 4 ≤ length x.now }
     ensures value { result ≡ vec4_add s (vec4_scale (mat4_times_vec4 (block16 m.now at) (row4 x.now from)) plus_one) }
-    ensures no_minus_zero_2 { NoMinusZero result }
+    ensures sum_no_minus_zero { NoMinusZero result }
 {
     let b = rows::load_block(m, at);
     let v = rows::load4(x, from);
@@ -47,10 +47,10 @@ fn add_product(m: &[f64], at: usize, x: &[f64], from: usize, s: Vec4) -> Vec4
 fn add_before(row: &[f64], x: &[f64], from: usize, low: usize, y: Vec4) -> Vec4
     requires no_minus_zero { NoMinusZero y }
     requires low_bound { low ≤ 2 }
-    requires low_in_bounds { 16 * low ≤ length row.now }
-    requires low_in_bounds_2 { from + 4 * low ≤ length x.now }
+    requires row_long { 16 * low ≤ length row.now }
+    requires from_in_x { from + 4 * low ≤ length x.now }
     ensures value { result ≡ add_products plus_one y (blocks16 row.now 0 low) (rows4 x.now from low) }
-    ensures no_minus_zero_2 { NoMinusZero result }
+    ensures sum_no_minus_zero { NoMinusZero result }
 {
     if low == 0 {
         return y;
@@ -67,10 +67,10 @@ fn add_before(row: &[f64], x: &[f64], from: usize, low: usize, y: Vec4) -> Vec4
 fn add_after(row: &[f64], at: usize, x: &[f64], from: usize, high: usize, y: Vec4) -> Vec4
     requires no_minus_zero { NoMinusZero y }
     requires high_bound { high ≤ 2 }
-    requires high_in_bounds { at + 16 * high ≤ length row.now }
-    requires high_in_bounds_2 { from + 4 * high ≤ length x.now }
+    requires at_in_row { at + 16 * high ≤ length row.now }
+    requires from_in_x { from + 4 * high ≤ length x.now }
     ensures value { result ≡ add_products plus_one y (blocks16 row.now at high) (rows4 x.now from high) }
-    ensures no_minus_zero_2 { NoMinusZero result }
+    ensures sum_no_minus_zero { NoMinusZero result }
 {
     if high == 0 {
         return y;
@@ -89,7 +89,7 @@ fn row_product(row: &[f64], x: &[f64], n: usize, i: usize, old: Vec4) -> Vec4
     requires i_lt_n { i < n }
     requires n_bound { n ≤ 32 }
     requires i_in_bounds { 16 * row_length n i ≤ length row.now }
-    requires n_in_bounds { 4 * n ≤ length x.now }
+    requires x_long { 4 * n ≤ length x.now }
     ensures { result ≡ row_times n i plus_zero plus_one (blocks16 row.now 0 (row_length n i)) (rows4 x.now 0 n) old }
 {
     let low = layout::count_before(i);
@@ -114,8 +114,8 @@ fn row_times(work: &[f64], n: usize, i: usize, at: usize, p: usize, ap: usize) -
     requires at_value { at ≡ 16 * row_start n i }
     requires le_n { (2 ≤ n) × (n ≤ 32) }
     requires matrix_numbers_in_bounds { matrix_numbers ≤ length work.now }
-    requires n_in_bounds { p + 4 * n ≤ length work.now }
-    requires n_in_bounds_2 { ap + 4 * n ≤ length work.now }
+    requires p_in_work { p + 4 * n ≤ length work.now }
+    requires ap_in_work { ap + 4 * n ≤ length work.now }
     ensures { result ≡ row_times n i plus_zero plus_one (blocks16 work.now (16 * row_start n i) (row_length n i)) (rows4 work.now p n) (row4 work.now (ap + 4 * i)) }
 {
     let e = at + 16 * layout::row_length(n, i);
@@ -128,8 +128,8 @@ fn row_times(work: &[f64], n: usize, i: usize, at: usize, p: usize, ap: usize) -
 pub fn mult_vec(work: &mut [f64], n: usize, p: usize, ap: usize)
     requires le_n { (2 ≤ n) × (n ≤ 32) }
     requires matrix_numbers_le_ap { matrix_numbers ≤ ap }
-    requires n_in_bounds { p + 4 * n ≤ length work.old }
-    requires n_in_bounds_2 { ap + 4 * n ≤ length work.old }
+    requires p_in_work { p + 4 * n ≤ length work.old }
+    requires ap_in_work { ap + 4 * n ≤ length work.old }
     requires apart { Apart ap (4 * n) p (4 * n) }
     ensures { work.new ≡ put work.old ap (flat4 (mult_vec n plus_zero plus_one (matrix_rows work.old n) (rows4 work.old p n) (rows4 work.old ap n))) }
 {

@@ -15,7 +15,7 @@ const ITERATIONS: usize = 1000;
 #[tactic(auto, unfolding(crate::specs::Step::solved, matrix::specs::System::system_at))]
 pub(crate) fn solve(work: &mut [f64], pins: &[u8], n: usize, tolerance: f64) -> Solve
     requires le_n { (2 ≤ n) × (n ≤ 32) }
-    requires n_in_bounds { 4 * n ≤ length pins.now }
+    requires pins_long { 4 * n ≤ length pins.now }
     requires work_len { length work.old ≡ work_numbers }
     ensures ratio_after { outcome (vectors_at n work.new) result.count result.ratio ≡ solved n pins.now tolerance (system_at n work.old) }
     ensures work_unchanged { after_vectors work.new ≡ after_vectors work.old }

@@ -7,11 +7,11 @@ use Rattle.bench.proofs.Entered.{call_declined, call_done}
 use Rattle.bench.proofs.LoadRows.{loads}
 use Rattle.bench.proofs.load.load_value.Goals as goal
 
-pub returns-then-k-ne0-clause-refusal_value : goal.returns-then-k-ne0-clause-refusal_value
-returns-then-k-ne0-clause-refusal_value c = (call_declined _ _ _ c.load_number-k.ensures c.if-k-ne0.true).0
+pub returns-then-k-ne0-clause-answer : goal.returns-then-k-ne0-clause-answer
+returns-then-k-ne0-clause-answer c = (call_declined _ _ _ c.load_number-k.ensures c.if-k-ne0.true).0
 
-pub returns-then-k-ne0-clause-pins_after : goal.returns-then-k-ne0-clause-pins_after
-returns-then-k-ne0-clause-pins_after c = (call_declined _ _ _ c.load_number-k.ensures c.if-k-ne0.true).1
+pub returns-then-k-ne0-clause-after : goal.returns-then-k-ne0-clause-after
+returns-then-k-ne0-clause-after c = (call_declined _ _ _ c.load_number-k.ensures c.if-k-ne0.true).1
 
 pub lay-requires : goal.lay-requires
 lay-requires c =
@@ -29,12 +29,12 @@ lay-requires c =
 pub seated-requires : goal.seated-requires
 seated-requires c = (loads _ _ _ _ _ _ _ c.load_number-k.ensures c.if-k-ne0.false).entry.seat
 
-pub returns-clause-refusal_value : goal.returns-clause-refusal_value
+pub returns-clause-answer : goal.returns-clause-answer
 unfolding case_of case_at
-returns-clause-refusal_value c = (call_done _ _ _ c.load_number-k.ensures c.if-k-ne0.false).0
+returns-clause-answer c = (call_done _ _ _ c.load_number-k.ensures c.if-k-ne0.false).0
 
-pub returns-clause-pins_after : goal.returns-clause-pins_after
+pub returns-clause-after : goal.returns-clause-after
 unfolding case_of case_at put_all put_strand loaded_on
-returns-clause-pins_after c =
+returns-clause-after c =
     let w = c.lay.ensures in
     rw (w.rest_after, w.drape_after, w.pins_after, c.seated.ensures) (call_done _ _ _ c.load_number-k.ensures c.if-k-ne0.false).1

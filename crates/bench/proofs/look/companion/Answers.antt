@@ -5,8 +5,8 @@ use Rattle.bench.proofs.LookRows.{companion_keeps}
 use Rattle.bench.proofs.EveryCall.{companion_tells}
 use Rattle.bench.proofs.look.companion.Goals as goal
 
-pub returns-clause-by_index : goal.returns-clause-by_index
-returns-clause-by_index c pins = ap said (c.look_number.ensures pins) ∙ sym (companion_tells _ _ _)
+pub returns-clause-answer : goal.returns-clause-answer
+returns-clause-answer c pins = ap said (c.look_number.ensures pins) ∙ sym (companion_tells _ _ _)
 
-pub returns-clause-by_index_2 : goal.returns-clause-by_index_2
-returns-clause-by_index_2 c pins = companion_keeps _ _ _
+pub returns-clause-after : goal.returns-clause-after
+returns-clause-after c pins = companion_keeps _ _ _

@@ -5,11 +5,11 @@ use Rattle.bench.proofs.Entered.{call_declined}
 use Rattle.bench.proofs.LookRows.{looks, looks_rest, looks_drape, look_keeps}
 use Rattle.bench.proofs.look.look.Goals as goal
 
-pub returns-then-k-ne0-clause-by_index : goal.returns-then-k-ne0-clause-by_index
-returns-then-k-ne0-clause-by_index c pins = (call_declined _ _ _ (c.look_number-k.ensures pins) c.if-k-ne0.true).0
+pub returns-then-k-ne0-clause-answer : goal.returns-then-k-ne0-clause-answer
+returns-then-k-ne0-clause-answer c pins = (call_declined _ _ _ (c.look_number-k.ensures pins) c.if-k-ne0.true).0
 
-pub returns-then-k-ne0-clause-by_index_2 : goal.returns-then-k-ne0-clause-by_index_2
-returns-then-k-ne0-clause-by_index_2 c pins = look_keeps _ _ _
+pub returns-then-k-ne0-clause-after : goal.returns-then-k-ne0-clause-after
+returns-then-k-ne0-clause-after c pins = look_keeps _ _ _
 
 pub offset_bounds-counts-seat : goal.offset_bounds-counts-seat
 offset_bounds-counts-seat c = let p = looks _ _ _ _ _ _ _ (c.look_number-k.ensures []) c.if-k-ne0.false in omega (arith, p.seat)
@@ -35,12 +35,12 @@ offset_bounds-rest-at c = let p = looks _ _ _ _ _ _ _ (c.look_number-k.ensures [
 pub slice_bounds-result-end-then-kind-lt2 : goal.slice_bounds-result-end-then-kind-lt2
 slice_bounds-result-end-then-kind-lt2 c = let p = looks _ _ _ _ _ _ _ (c.look_number-k.ensures []) c.if-k-ne0.false in omega (arith, p.rest_long, p.seat, p.count)
 
-pub returns-then-kind-lt2-clause-by_index : goal.returns-then-kind-lt2-clause-by_index
+pub returns-then-kind-lt2-clause-answer : goal.returns-then-kind-lt2-clause-answer
 unfolding part
-returns-then-kind-lt2-clause-by_index c pins = looks_rest _ _ _ _ _ _ (looks _ _ _ _ _ _ _ (c.look_number-k.ensures pins) c.if-k-ne0.false) c.if-kind-lt2.true _ refl
+returns-then-kind-lt2-clause-answer c pins = looks_rest _ _ _ _ _ _ (looks _ _ _ _ _ _ _ (c.look_number-k.ensures pins) c.if-k-ne0.false) c.if-kind-lt2.true _ refl
 
-pub returns-then-kind-lt2-clause-by_index_2 : goal.returns-then-kind-lt2-clause-by_index_2
-returns-then-kind-lt2-clause-by_index_2 c pins = look_keeps _ _ _
+pub returns-then-kind-lt2-clause-after : goal.returns-then-kind-lt2-clause-after
+returns-then-kind-lt2-clause-after c pins = look_keeps _ _ _
 
 pub overflow_mul-at-2 : goal.overflow_mul-at-2
 overflow_mul-at-2 c = let p = looks _ _ _ _ _ _ _ (c.look_number-k.ensures []) c.if-k-ne0.false in omega (arith, p.seat)
@@ -60,9 +60,9 @@ offset_bounds-drape-at c = let p = looks _ _ _ _ _ _ _ (c.look_number-k.ensures 
 pub slice_bounds-result-end-2 : goal.slice_bounds-result-end-2
 slice_bounds-result-end-2 c = let p = looks _ _ _ _ _ _ _ (c.look_number-k.ensures []) c.if-k-ne0.false in omega (arith, p.drape_long, p.seat, p.count, p.below)
 
-pub returns-clause-by_index : goal.returns-clause-by_index
+pub returns-clause-answer : goal.returns-clause-answer
 unfolding part
-returns-clause-by_index c pins = looks_drape _ _ _ _ _ _ (looks _ _ _ _ _ _ _ (c.look_number-k.ensures pins) c.if-k-ne0.false) c.if-kind-lt2.false _ refl
+returns-clause-answer c pins = looks_drape _ _ _ _ _ _ (looks _ _ _ _ _ _ _ (c.look_number-k.ensures pins) c.if-k-ne0.false) c.if-kind-lt2.false _ refl
 
-pub returns-clause-by_index_2 : goal.returns-clause-by_index_2
-returns-clause-by_index_2 c pins = look_keeps _ _ _
+pub returns-clause-after : goal.returns-clause-after
+returns-clause-after c pins = look_keeps _ _ _

@@ -4,11 +4,11 @@ use Rattle.bench.proofs.Entered.{call_declined}
 use Rattle.bench.proofs.PinRows.{pin_accepted, pin_done}
 use Rattle.bench.proofs.pin.pin.Goals as goal
 
-pub returns-then-k-ne0-clause-result_value : goal.returns-then-k-ne0-clause-result_value
-returns-then-k-ne0-clause-result_value c rest drape = (call_declined _ _ _ (c.pin_number-k.ensures rest drape c.args.byte) c.if-k-ne0.true).0
+pub returns-then-k-ne0-clause-answer : goal.returns-then-k-ne0-clause-answer
+returns-then-k-ne0-clause-answer c rest drape = (call_declined _ _ _ (c.pin_number-k.ensures rest drape c.args.byte) c.if-k-ne0.true).0
 
-pub returns-then-k-ne0-clause-pins_after : goal.returns-then-k-ne0-clause-pins_after
-returns-then-k-ne0-clause-pins_after c rest drape = (call_declined _ _ _ (c.pin_number-k.ensures rest drape c.args.byte) c.if-k-ne0.true).1
+pub returns-then-k-ne0-clause-after : goal.returns-then-k-ne0-clause-after
+returns-then-k-ne0-clause-after c rest drape = (call_declined _ _ _ (c.pin_number-k.ensures rest drape c.args.byte) c.if-k-ne0.true).1
 
 pub overflow_mul-pins : goal.overflow_mul-pins
 overflow_mul-pins c = let p = pin_accepted _ _ _ _ _ _ _ _ _ (c.pin_number-k.ensures [] [] 0) c.if-k-ne0.false in omega (arith, p.seat)
@@ -25,8 +25,8 @@ overflow_add-pins-2 c = let p = pin_accepted _ _ _ _ _ _ _ _ _ (c.pin_number-k.e
 pub bounds-pins-seat : goal.bounds-pins-seat
 bounds-pins-seat c = let p = pin_accepted _ _ _ _ _ _ _ _ _ (c.pin_number-k.ensures [] [] 0) c.if-k-ne0.false in omega (arith, p.long, p.seat, p.vertex, p.component)
 
-pub returns-clause-result_value : goal.returns-clause-result_value
-returns-clause-result_value c rest drape = (pin_done _ _ _ _ _ _ _ _ _ (c.pin_number-k.ensures rest drape c.args.byte) c.if-k-ne0.false).0
+pub returns-clause-answer : goal.returns-clause-answer
+returns-clause-answer c rest drape = (pin_done _ _ _ _ _ _ _ _ _ (c.pin_number-k.ensures rest drape c.args.byte) c.if-k-ne0.false).0
 
-pub returns-clause-pins_after : goal.returns-clause-pins_after
-returns-clause-pins_after c rest drape = (pin_done _ _ _ _ _ _ _ _ _ (c.pin_number-k.ensures rest drape c.args.byte) c.if-k-ne0.false).1
+pub returns-clause-after : goal.returns-clause-after
+returns-clause-after c rest drape = (pin_done _ _ _ _ _ _ _ _ _ (c.pin_number-k.ensures rest drape c.args.byte) c.if-k-ne0.false).1

@@ -14,4 +14,4 @@ loop-i-preserved c = record {
 }
 
 pub returns : goal.returns
-returns c = across_all _ _ _ _ _ _ c.loop-i.invariant.stored (omega arith) c.requires.n_in_bounds
+returns c = across_all _ _ _ _ _ _ c.loop-i.invariant.stored (omega arith) c.requires.framex_in_area

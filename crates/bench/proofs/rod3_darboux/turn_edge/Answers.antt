@@ -7,7 +7,7 @@ pub returns-then-pins-i-ne0 : goal.returns-then-pins-i-ne0
 returns-then-pins-i-ne0 c =
     let a = c.args in
     let e = pinned_twist a.n a.pins.now a.i c.if-pins-i-ne0.true c.requires.i_bound in
-    record { value = rw e; area_after = frame_stays _ _ _ _ _ _ _ (omega arith) c.requires.n_in_bounds_2 e }
+    record { value = rw e; area_after = frame_stays _ _ _ _ _ _ _ (omega arith) c.requires.framex_in_area e }
 
 pub returns : goal.returns
 returns c =

@@ -18,8 +18,8 @@ loop-i-preserved c =
     let p = c.requires in
     record {
       within = omega arith;
-      tested = turns_more _ _ _ _ _ _ _ _ l.stored t p.apart p.apart_2 l.tested e.value;
-      stored = frames_more _ _ _ _ _ _ _ _ l.stored t p.apart p.apart_2 e.area_after;
+      tested = turns_more _ _ _ _ _ _ _ _ l.stored t p.framex_apart_from_xyz p.framex_apart_from_u l.tested e.value;
+      stored = frames_more _ _ _ _ _ _ _ _ l.stored t p.framex_apart_from_xyz p.framex_apart_from_u e.area_after;
     }
 
 pub returns : goal.returns
@@ -27,5 +27,5 @@ returns c =
     let l = c.loop-i in
     record {
       value = turns_all _ _ _ _ l.i (omega arith) l.invariant.tested;
-      area_after = frames_all _ _ _ _ _ _ _ _ l.invariant.stored (omega arith) c.requires.n_in_bounds_2;
+      area_after = frames_all _ _ _ _ _ _ _ _ l.invariant.stored (omega arith) c.requires.framex_in_area;
     }

@@ -3,4 +3,4 @@ use Rattle.bench.proofs.TurnLaws.{updated}
 use Rattle.bench.proofs.rod3_darboux.update_solution_hair.Goals as goal
 
 pub returns-clause-area_after : goal.returns-clause-area_after
-returns-clause-area_after c = updated _ _ _ _ _ _ _ _ c.requires.apart c.requires.apart_2 c.turn_frames-fit.ensures.area_after c.move_vertices.ensures
+returns-clause-area_after c = updated _ _ _ _ _ _ _ _ c.requires.framex_apart_from_xyz c.requires.framex_apart_from_u c.turn_frames-fit.ensures.area_after c.move_vertices.ensures

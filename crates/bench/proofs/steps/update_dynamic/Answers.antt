@@ -13,7 +13,7 @@ accepted c = steps c.args.work.now c.args.seat c.args.pick (over c.args.dt) (ben
 pub returns-then-k-ne0 : goal.returns-then-k-ne0
 returns-then-k-ne0 c =
     let q = step_refused c.args.work.now c.args.seat c.args.pick (over c.args.dt) (bench_of c.args.seats c.args.rest.now c.args.drape.now c.args.pins.now) _ (c.step_number-k.ensures (over c.args.dt) c.time_fits-fits.ensures) c.if-k-ne0.true c.args.work.now in
-    record { result_value = q.0; result_value_2 = q.1.0; pins_after = q.1.1.0; leaves_work = q.1.1.1 }
+    record { answer = q.0; numbers = q.1.0; after = q.1.1.0; leaves_work = q.1.1.1 }
 
 pub offset_bounds-counts-seat : goal.offset_bounds-counts-seat
 offset_bounds-counts-seat c = omega (arith, (accepted (goal.at.offset_bounds-counts-seat c).Else-k-ne0).seat)
@@ -37,4 +37,4 @@ unfolding strand_of
 returns c =
     let e = c.dynamic_on.ensures in
     let q = step_done c.args.work.now c.args.seat c.args.pick (over c.args.dt) (bench_of c.args.seats c.args.rest.now c.args.drape.now c.args.pins.now) (sym (c.step_number-k.ensures (over c.args.dt) c.time_fits-fits.ensures) ∙ c.if-k-ne0.false) _ _ c.args.work.now _ e.value e.drape_after in
-    record { result_value = q.0; result_value_2 = q.1.0; pins_after = q.1.1.0; leaves_work = q.1.1.1 }
+    record { answer = q.0; numbers = q.1.0; after = q.1.1.0; leaves_work = q.1.1.1 }

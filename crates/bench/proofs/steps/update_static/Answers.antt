@@ -15,7 +15,7 @@ pub returns-then-k-ne0 : goal.returns-then-k-ne0
 unfolding time_fits
 returns-then-k-ne0 c =
     let q = step_refused c.args.work.now c.args.seat c.args.pick still (bench_of c.args.seats c.args.rest.now c.args.drape.now c.args.pins.now) _ (c.step_number-k.ensures still refl) c.if-k-ne0.true c.args.work.now in
-    record { result_value = q.0; result_value_2 = q.1.0; pins_after = q.1.1.0; leaves_work = q.1.1.1 }
+    record { answer = q.0; numbers = q.1.0; after = q.1.1.0; leaves_work = q.1.1.1 }
 
 pub offset_bounds-counts-seat : goal.offset_bounds-counts-seat
 offset_bounds-counts-seat c = omega (arith, (accepted (goal.at.offset_bounds-counts-seat c).Else-k-ne0).seat)
@@ -39,4 +39,4 @@ unfolding strand_of time_fits
 returns c =
     let e = c.static_on.ensures in
     let q = step_done c.args.work.now c.args.seat c.args.pick still (bench_of c.args.seats c.args.rest.now c.args.drape.now c.args.pins.now) (sym (c.step_number-k.ensures still refl) ∙ c.if-k-ne0.false) _ _ c.args.work.now _ e.value e.drape_after in
-    record { result_value = q.0; result_value_2 = q.1.0; pins_after = q.1.1.0; leaves_work = q.1.1.1 }
+    record { answer = q.0; numbers = q.1.0; after = q.1.1.0; leaves_work = q.1.1.1 }

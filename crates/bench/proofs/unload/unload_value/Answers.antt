@@ -6,11 +6,11 @@ use Rattle.bench.specs.Calls.{case_of}
 use Rattle.bench.proofs.Entered.{call_declined, call_done, entered}
 use Rattle.bench.proofs.unload.unload_value.Goals as goal
 
-pub returns-then-k-ne0-clause-refusal_value : goal.returns-then-k-ne0-clause-refusal_value
-returns-then-k-ne0-clause-refusal_value c = (call_declined _ _ _ c.unload_number-k.ensures c.if-k-ne0.true).0
+pub returns-then-k-ne0-clause-answer : goal.returns-then-k-ne0-clause-answer
+returns-then-k-ne0-clause-answer c = (call_declined _ _ _ c.unload_number-k.ensures c.if-k-ne0.true).0
 
-pub returns-then-k-ne0-clause-pins_after : goal.returns-then-k-ne0-clause-pins_after
-returns-then-k-ne0-clause-pins_after c = (call_declined _ _ _ c.unload_number-k.ensures c.if-k-ne0.true).1
+pub returns-then-k-ne0-clause-after : goal.returns-then-k-ne0-clause-after
+returns-then-k-ne0-clause-after c = (call_declined _ _ _ c.unload_number-k.ensures c.if-k-ne0.true).1
 
 pub clear-requires : goal.clear-requires
 clear-requires c =
@@ -25,12 +25,12 @@ clear-requires c =
 pub seated-requires : goal.seated-requires
 seated-requires c = (entered _ _ _ _ _ c.unload_number-k.ensures c.if-k-ne0.false).seat
 
-pub returns-clause-refusal_value : goal.returns-clause-refusal_value
+pub returns-clause-answer : goal.returns-clause-answer
 unfolding case_of case_at
-returns-clause-refusal_value c = (call_done _ _ _ c.unload_number-k.ensures c.if-k-ne0.false).0
+returns-clause-answer c = (call_done _ _ _ c.unload_number-k.ensures c.if-k-ne0.false).0
 
-pub returns-clause-pins_after : goal.returns-clause-pins_after
+pub returns-clause-after : goal.returns-clause-after
 unfolding case_of case_at put_all put_strand emptied
-returns-clause-pins_after c =
+returns-clause-after c =
     let w = c.clear.ensures in
     rw (w.rest_after, w.drape_after, w.pins_after, c.seated.ensures, c.zero.ensures) (call_done _ _ _ c.unload_number-k.ensures c.if-k-ne0.false).1

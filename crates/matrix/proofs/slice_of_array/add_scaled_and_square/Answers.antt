@@ -31,7 +31,7 @@ returns c =
     let l = c.loop-i in
     let e : l.i ≡ a.n = omega arith in
     let stored = stored_all l.invariant.1.0 e in
-    let there = (rows_put a.work.now _ a.to a.n _ stored (length_table a.n _) c.requires.n_in_bounds).there in
+    let there = (rows_put a.work.now _ a.to a.n _ stored (length_table a.n _) c.requires.to_in_work).there in
     record {
       work_after = stored ∙ ap (λ (l : List Vec4). put a.work.now a.to (flat4 l)) (sym (zip_tables (λ (x y : Vec4). vec4_add x (vec4_scale y a.alpha)) a.n _ _));
       value = rw there (rw e at l.invariant.1.1);

@@ -7,4 +7,4 @@ pub returns : goal.returns
 returns c =
     let a = c.args in
     let sum = product_added (block16 a.m.now a.at) (row4 a.x.now a.from) c.requires.no_minus_zero (simp (c.add.ensures, c.block_product.ensures, c.load4-v.ensures, c.load_block-b.ensures)) in
-    record { value = sum.0; no_minus_zero_2 = sum.1 }
+    record { value = sum.0; sum_no_minus_zero = sum.1 }

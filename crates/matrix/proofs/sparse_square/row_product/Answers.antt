@@ -14,14 +14,14 @@ add_before-s1-requires-clause-no_minus_zero c = (begins c.args.old c.scale-by_ze
 pub add_before-s1-requires-clause-low_bound : goal.add_before-s1-requires-clause-low_bound
 add_before-s1-requires-clause-low_bound c = omega (arith, before_le c.args.i)
 
-pub add_before-s1-requires-clause-low_in_bounds_2 : goal.add_before-s1-requires-clause-low_in_bounds_2
-add_before-s1-requires-clause-low_in_bounds_2 c = omega (arith, before_le c.args.i)
+pub add_before-s1-requires-clause-from_in_x : goal.add_before-s1-requires-clause-from_in_x
+add_before-s1-requires-clause-from_in_x c = omega (arith, before_le c.args.i)
 
 pub add_after-s2-requires-clause-high_bound : goal.add_after-s2-requires-clause-high_bound
 add_after-s2-requires-clause-high_bound c = omega (arith, after_le c.args.n c.args.i c.requires.i_lt_n)
 
-pub add_after-s2-requires-clause-high_in_bounds_2 : goal.add_after-s2-requires-clause-high_in_bounds_2
-add_after-s2-requires-clause-high_in_bounds_2 c = omega (arith, after_le c.args.n c.args.i c.requires.i_lt_n)
+pub add_after-s2-requires-clause-from_in_x : goal.add_after-s2-requires-clause-from_in_x
+add_after-s2-requires-clause-from_in_x c = omega (arith, after_le c.args.n c.args.i c.requires.i_lt_n)
 
 pub returns : goal.returns
 returns c =
