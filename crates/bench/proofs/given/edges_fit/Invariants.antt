@@ -1,15 +1,11 @@
 -- The invariant: whether the first i edges fit.
-use Prim.Native.Nat.{ℕ, ◌+◌, ◌-◌, ◌*◌, ◌≤◌}
-use mathlib.Core.Path.{◌≡◌, refl, sym}
-use native.Mathlib.Omega.{arith}
+use Prim.Native.Nat.{ℕ, ◌+◌, ◌-◌, ◌≤◌}
+use mathlib.Core.Path.{◌≡◌}
 use Rattle.vectors.specs.Edge.{edge_length}
 use Rattle.matrix.specs.Parts.{table}
 use Rattle.matrix.specs.Rows.{rows3}
 use Rattle.matrix.specs.System.{every}
 use Rattle.matrix.specs.HairSystem.{vec3_at}
-use Rattle.matrix.proofs.Every.{every_more}
-use Rattle.matrix.proofs.Shapes.{vec3_at_lem}
-use Rattle.bench.specs.Given.{edges_fit}
 use Rattle.bench.proofs.given.edges_fit.Given as goal
 
 abbrev pub invariant-loop-i : goal.invariant-loop-i

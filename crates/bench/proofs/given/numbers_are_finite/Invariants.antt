@@ -1,14 +1,11 @@
 -- The invariant: whether the first i numbers are finite.
 use Prim.Native.Nat.{ℕ, ◌-◌, ◌≤◌}
-use mathlib.Core.Path.{◌≡◌, refl, sym, ap, ◌∙◌}
-use native.Mathlib.Omega.{arith}
+use mathlib.Core.Path.{◌≡◌}
 use lib.ListN.{length, get_or}
 use lib.Ieee.{nan}
 use Rattle.vectors.specs.Finite.{is_finite}
 use Rattle.matrix.specs.Parts.{table}
 use Rattle.matrix.specs.System.{every}
-use Rattle.matrix.proofs.Parts.{table_of}
-use Rattle.matrix.proofs.Every.{every_more}
 use Rattle.bench.proofs.given.numbers_are_finite.Given as goal
 
 abbrev pub invariant-loop-i : goal.invariant-loop-i

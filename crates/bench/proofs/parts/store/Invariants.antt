@@ -1,13 +1,9 @@
 -- The invariant: the first i numbers of the list are stored.
-use Prim.Native.Nat.{ℕ, ◌+◌, ◌-◌, ◌≤◌}
-use mathlib.Core.Path.{◌≡◌, refl, sym, ap, ◌∙◌}
-use mathlib.Core.List.{List}
-use native.Mathlib.Numerals.{add-one}
-use native.Mathlib.Omega.{arith}
-use lib.ListN.{length, get_or, set, length-set}
-use lib.Ieee.{Float, nan}
+use Prim.Native.Nat.{ℕ, ◌-◌, ◌≤◌}
+use mathlib.Core.Path.{◌≡◌}
+use lib.ListN.{length, get_or}
+use lib.Ieee.{nan}
 use Rattle.matrix.specs.Parts.{put, table}
-use Rattle.matrix.proofs.Parts.{put_none, put_more, table_of}
 use Rattle.bench.proofs.parts.store.Given as goal
 
 abbrev pub invariant-loop-i : goal.invariant-loop-i

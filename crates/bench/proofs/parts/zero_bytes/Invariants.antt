@@ -1,12 +1,8 @@
 -- The invariant: the first i are stored.
-use Prim.Native.Nat.{ℕ, ◌+◌, ◌-◌, ◌≤◌}
-use mathlib.Core.Path.{◌≡◌, refl, sym, ap, ◌∙◌}
-use mathlib.Core.List.{List}
-use native.Mathlib.Numerals.{add-one}
-use native.Mathlib.Omega.{arith}
-use lib.ListN.{length, set, length-set}
+use Prim.Native.Nat.{◌-◌, ◌≤◌}
+use mathlib.Core.Path.{◌≡◌}
+use lib.ListN.{length}
 use Rattle.matrix.specs.Parts.{put, table}
-use Rattle.matrix.proofs.Parts.{put_none, put_more, table_same}
 use Rattle.bench.proofs.parts.zero_bytes.Given as goal
 
 abbrev pub invariant-loop-i : goal.invariant-loop-i

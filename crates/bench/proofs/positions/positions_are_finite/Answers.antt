@@ -1,5 +1,5 @@
 -- Whether the first i vectors are finite.
-use Prim.Native.Nat.{◌+◌, ◌-◌, ◌*◌}
+use Prim.Native.Nat.{◌+◌, ◌*◌}
 use mathlib.Core.Path.{refl, sym, ◌∙◌}
 use native.Mathlib.Omega.{arith}
 use Rattle.vectors.specs.Finite.{vec3_is_finite}

@@ -1,18 +1,13 @@
 -- The invariant: whether the first i vectors are finite.
-use Prim.Native.Nat.{ℕ, ◌+◌, ◌-◌, ◌*◌, ◌≤◌}
-use mathlib.Core.Path.{◌≡◌, refl, sym, ◌∙◌}
-use native.Mathlib.Omega.{arith}
+use Prim.Native.Nat.{ℕ, ◌-◌, ◌*◌, ◌≤◌}
+use mathlib.Core.Path.{◌≡◌}
 use Rattle.vectors.specs.Finite.{vec3_is_finite}
 use Rattle.matrix.specs.Parts.{table}
 use Rattle.matrix.specs.Rows.{rows3}
 use Rattle.matrix.specs.System.{every}
 use Rattle.matrix.specs.HairSystem.{vec3_at}
-use Rattle.matrix.proofs.Every.{every_more}
-use Rattle.matrix.proofs.Shapes.{vec3_at_lem}
-use Rattle.bench.specs.Areas.{place_positions}
 use Rattle.bench.specs.Update.{vec3_unless_pinned}
-use Rattle.bench.specs.Step.{positions_in, positions_after}
-use Rattle.bench.proofs.FiniteVectors.{finite_all}
+use Rattle.bench.specs.Step.{positions_in}
 use Rattle.bench.proofs.positions.positions_are_finite.Given as goal
 
 abbrev pub invariant-loop-i : goal.invariant-loop-i

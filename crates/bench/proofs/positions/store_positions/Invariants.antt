@@ -1,15 +1,11 @@
 -- The invariant: the first i vectors are stored. The positions still to be read stand behind them.
-use Prim.Native.Nat.{ℕ, ◌+◌, ◌-◌, ◌*◌, ◌≤◌}
-use mathlib.Core.Path.{◌≡◌, ap, ◌∙◌}
-use native.Mathlib.Omega.{arith}
-use Rattle.matrix.specs.Parts.{put}
-use Rattle.matrix.specs.Rows.{rows3, numbers3}
+use Prim.Native.Nat.{ℕ, ◌-◌, ◌*◌, ◌≤◌}
+use Rattle.matrix.specs.Rows.{rows3}
 use Rattle.matrix.specs.HairSystem.{vec3_at}
-use Rattle.matrix.proofs.RowLaws.{Stored3, stored_none, stored_more, unstored, stored_all}
-use Rattle.matrix.proofs.Shapes.{vec3_at_lem}
+use Rattle.matrix.proofs.RowLaws.{Stored3}
 use Rattle.bench.specs.Areas.{place_positions}
 use Rattle.bench.specs.Update.{vec3_unless_pinned}
-use Rattle.bench.specs.Step.{positions_in, positions_after}
+use Rattle.bench.specs.Step.{positions_in}
 use Rattle.bench.proofs.positions.store_positions.Given as goal
 
 abbrev pub invariant-loop-i : goal.invariant-loop-i

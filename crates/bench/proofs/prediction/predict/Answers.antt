@@ -1,5 +1,5 @@
 -- The first i vectors are stored.
-use Prim.Native.Nat.{◌+◌, ◌-◌, ◌*◌}
+use Prim.Native.Nat.{◌+◌, ◌*◌}
 use native.Mathlib.Omega.{arith}
 use Rattle.matrix.proofs.RowLaws.{stored_none, stored_more, stored_all}
 use Rattle.matrix.proofs.Shapes.{vec3_at_lem}

@@ -1,11 +1,8 @@
 -- The invariant: the first i vectors are stored.
-use Prim.Native.Nat.{ℕ, ◌+◌, ◌-◌, ◌*◌, ◌≤◌}
-use native.Mathlib.Omega.{arith}
+use Prim.Native.Nat.{ℕ, ◌-◌, ◌*◌, ◌≤◌}
 use Rattle.matrix.specs.HairSystem.{vec3_at}
-use Rattle.matrix.proofs.RowLaws.{Stored3, stored_none, stored_more, stored_all}
-use Rattle.matrix.proofs.Shapes.{vec3_at_lem}
-use Rattle.bench.specs.Areas.{place_positions, place_velocities, place_working_copy}
-use Rattle.bench.specs.Step.{positions_in, velocities_in, working_copy_in, predicted_vec3, predicted_copy}
+use Rattle.matrix.proofs.RowLaws.{Stored3}
+use Rattle.bench.specs.Step.{positions_in, velocities_in, working_copy_in, predicted_vec3}
 use Rattle.bench.proofs.prediction.predict.Given as goal
 
 abbrev pub invariant-loop-i : goal.invariant-loop-i

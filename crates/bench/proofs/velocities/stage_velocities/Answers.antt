@@ -1,5 +1,5 @@
 -- The first i vectors are stored. The working copy still to be read is apart from them.
-use Prim.Native.Nat.{◌+◌, ◌-◌, ◌*◌}
+use Prim.Native.Nat.{◌+◌, ◌*◌}
 use mathlib.Core.Path.{◌∙◌}
 use native.Mathlib.Omega.{arith}
 use Rattle.matrix.proofs.RowLaws.{stored_none, stored_more, unstored, stored_all}

@@ -1,13 +1,9 @@
 -- The invariant: the first i vectors are stored. The working copy still to be read is apart from them.
-use Prim.Native.Nat.{ℕ, ◌+◌, ◌-◌, ◌*◌, ◌≤◌}
-use mathlib.Core.Path.{◌∙◌}
-use native.Mathlib.Omega.{arith}
+use Prim.Native.Nat.{ℕ, ◌-◌, ◌*◌, ◌≤◌}
 use Rattle.matrix.specs.Rows.{rows3}
 use Rattle.matrix.specs.HairSystem.{vec3_at}
-use Rattle.matrix.proofs.RowLaws.{Stored3, stored_none, stored_more, unstored, stored_all}
-use Rattle.matrix.proofs.Shapes.{vec3_at_lem}
-use Rattle.bench.specs.Areas.{place_positions, place_velocities}
-use Rattle.bench.specs.Step.{positions_in, velocities_in, velocity_vec3, velocities_after}
+use Rattle.matrix.proofs.RowLaws.{Stored3}
+use Rattle.bench.specs.Step.{positions_in, velocities_in, velocity_vec3}
 use Rattle.bench.proofs.velocities.stage_velocities.Given as goal
 
 abbrev pub invariant-loop-i : goal.invariant-loop-i

@@ -1,10 +1,8 @@
 -- The invariant: the first i lengths are stored, and +0 stands after them.
 use Prim.Native.Nat.{◌+◌, ◌-◌, ◌≤◌}
 use mathlib.Core.Path.{◌≡◌}
-use native.Mathlib.Omega.{arith}
 use Rattle.matrix.specs.Rows.{rows3}
 use Rattle.matrix.specs.Edges.{edge_lengths}
-use Rattle.matrix.proofs.EdgeLaws.{lengths_none, lengths_more}
 use Rattle.matrix.proofs.edges.edge_lengths.Given as goal
 
 abbrev pub invariant-loop-i : goal.invariant-loop-i
