@@ -8,6 +8,7 @@ pub mod WholeUnits
 pub mod SquareUnder
 pub mod OneTimes
 pub mod Fitting
+pub mod Remainder
 pub mod Series
 pub mod Reversed
 mod Samples

@@ -1,8 +1,11 @@
 // Sine and cosine by fixed recurrences, so that their bits do not depend on a library.
-ghost use Rattle.std.specs.Prelude.{◌≡◌, false};
-ghost use Rattle.std.specs.Float.{nan};
-ghost use Rattle.vectors.specs.Angle.{reduced_of, series_of, sine_of, cosine_of};
+ghost use Rattle.std.specs.Prelude.{◌≡◌, ◌&&◌, false, ◌*◌, ◌%◌, ◌^◌};
+ghost use Rattle.std.specs.Float.{nan, binary64};
+ghost use Rattle.std.specs.Float.Ieee.{lt, neg, rem};
+ghost use Rattle.vectors.specs.Angle.{two_pi, reduced_of, series_of, sine_of, cosine_of};
 ghost use Rattle.vectors.specs.Finite.{is_finite};
+
+use crate::finite;
 
 const TWO_PI: f64 = 6.283185307179586;
 
@@ -18,12 +21,55 @@ const COSINE_DIVISORS: [f64; 14] = [
     2.0, 12.0, 30.0, 56.0, 90.0, 132.0, 182.0, 240.0, 306.0, 380.0, 462.0, 552.0, 650.0, 756.0,
 ];
 
+// TWO_PI is TURN places of 2 ^ -50 each, and PLACES of them make 1.
+const TURN: u64 = 0x19_21FB_5444_2D18;
+
+const PLACES: f64 = 1125899906842624.0;
+
+// s * 2 ^ k places, less whole turns.
+fn doubled(s: u64, k: u64) -> u64
+    ensures { result ≡ s * 2 ^ k % TURN }
+{
+    let mut r = s % TURN;
+    for _ in 0..k {
+        r = r * 2 % TURN;
+    }
+    r
+}
+
+// Whether the angle is within one turn either way.
+fn is_within_turn(angle: f64) -> bool
+    ensures { result ≡ (lt angle two_pi && lt (neg two_pi) angle) }
+{
+    (angle < TWO_PI) & (-TWO_PI < angle)
+}
+
+// angle % TWO_PI, without that operator: compiled it is a call of `fmod`, of a version that not every C
+// library has. A finite angle beyond one turn is a whole number of places, which its bits tell.
+fn remainder(angle: f64) -> f64
+    ensures { result ≡ rem binary64 angle two_pi }
+{
+    if is_within_turn(angle) {
+        return angle;
+    }
+    if !finite::is_finite(angle) {
+        return 0.0 / 0.0;
+    }
+    let b = f64::to_bits(angle);
+    let field = b % 0x8000_0000_0000_0000 / 0x10_0000_0000_0000;
+    let r = doubled(b % 0x10_0000_0000_0000 + 0x10_0000_0000_0000, field - 1025);
+    if b < 0x8000_0000_0000_0000 {
+        return r as f64 / PLACES;
+    }
+    -(r as f64) / PLACES
+}
+
 // The angle less its whole turns, folded once into the turn from -PI to PI.
 #[tactic(auto, unfolding(crate::specs::Angle::reduced_of))]
 fn reduced(angle: f64) -> f64
     ensures { result ≡ reduced_of angle }
 {
-    let a = angle % TWO_PI;
+    let a = remainder(angle);
     if PI < a {
         return a - TWO_PI;
     }
