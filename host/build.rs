@@ -1,4 +1,4 @@
-//! Links libbench_c.a from the folder that HAIRBENCH_LIB names, else from target/staticlib of the repository.
+//! Links libbench_c.a from the folder that HAIRBENCH_LIB names, else from crates/bench_c/out of the repository.
 
 use std::path::PathBuf;
 
@@ -6,7 +6,7 @@ fn main() {
     println!("cargo:rerun-if-env-changed=HAIRBENCH_LIB");
     let folder = match std::env::var_os("HAIRBENCH_LIB") {
         Some(folder) => PathBuf::from(folder),
-        None => PathBuf::from("../target/staticlib"),
+        None => PathBuf::from("../crates/bench_c/out"),
     };
     let library = folder.join("libbench_c.a");
     println!("cargo:rerun-if-changed={}", library.display());
@@ -14,7 +14,7 @@ fn main() {
         Ok(folder) if library.is_file() => folder,
         _ => {
             eprintln!(
-                "{} is not there: run `rt staticlib bench_c` at the top of the repository, or set HAIRBENCH_LIB",
+                "{} is not there: run `rt lib` in crates/bench_c, or set HAIRBENCH_LIB",
                 library.display()
             );
             std::process::exit(1);

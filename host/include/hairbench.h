@@ -1,4 +1,4 @@
-/* The six-seat hair bench: crate bench_c, built by `rt staticlib bench_c` as libbench_c.a.
+/* The six-seat hair bench: crate bench_c, built by `rt lib` there as out/libbench_c.a.
  *
  * The bench owns no memory. The caller keeps the record and lends areas to each call, as a pointer and a length:
  *

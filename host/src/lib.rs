@@ -1,4 +1,4 @@
-//! The six-seat hair bench: a safe wrapper of the library that `rt staticlib bench_c` writes.
+//! The six-seat hair bench: a safe wrapper of the library that `rt lib` writes in crates/bench_c.
 //!
 //! Hair is laid on a bench of six seats, and each strand is an elastic rod of 2 to 32 vertices that can be
 //! pinned, pulled and stepped. A [`Bench`] owns the record and the areas that the library works in. A call that

@@ -1,9 +1,9 @@
 #!/usr/bin/env python3
 """Compares host/include/hairbench.h and host/include/hairbench.rs with the functions and structs that crate bench_c exports.
 
-From each `pub extern "C" fn` of its source, and from each #[repr(C)] struct that they lead to, the declaration in C and in Rust is worked out:
-a slice is a pointer and a length. From a function that returns the record changed, the inline function in C is worked out too that has the
-record as a pointer. Each must stand in its file word for word, and the file must declare no other.
+From each `pub extern "C" fn` of its source that keeps its name (`no_mangle`), and from each #[repr(C)] struct that they lead to, the
+declaration in C and in Rust is worked out: a slice is a pointer and a length. From a function that returns the record changed, the inline
+function in C is worked out too that has the record as a pointer. Each must stand in its file word for word, and the file must declare no other.
 usage: tests/c/declarations.py [FOLDER]     FOLDER: has the files instead of the repository
 Exit status: 0 where they agree."""
 import os, re, sys
@@ -16,13 +16,13 @@ NUMBERS = {'f64': 'double', 'u8': 'uint8_t', 'usize': 'size_t'}
 
 def functions(text):
     """Name, parameters and result of each exported function; a parameter is a name and a type."""
-    for m in re.finditer(r'pub extern "C" fn (\w+)\((.*?)\) -> (\w+)', text, re.S):
+    for m in re.finditer(r'#\[unsafe\(no_mangle\)\]\npub extern "C" fn (\w+)\((.*?)\) -> (\w+)', text, re.S):
         yield m[1], [p.strip().split(': ', 1) for p in m[2].split(',') if p.strip()], m[3]
 
 
 def structs(text):
     """Name and fields of each struct with a layout of its own."""
-    for m in re.finditer(r'#\[repr\(C\)\]\s*pub struct (\w+) \{(.*?)\n\}', text, re.S):
+    for m in re.finditer(r'#\[repr\(C\)\]\s*(?:#\[derive\([^)]*\)\]\s*)?pub struct (\w+) \{(.*?)\n\}', text, re.S):
         yield m[1], re.findall(r'pub (\w+): ([^,]+),', m[2])
 
 

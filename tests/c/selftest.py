@@ -20,11 +20,14 @@ ALTERED = (
     (RUST, 'work: *mut f64', 'work: *const f64'),
     (RUST, ') -> Place;', ') -> Report;'),
     (RUST, '#[repr(C)]\n', ''),
+    (EXPORTED, '#[repr(C)]\n', ''),
+    (SEATS, '#[repr(C)]\n', ''),
     (RUST, 'extern "C" {', 'extern "system" {'),
     # a function or a parameter more or less
     (HEADER, 'double hairbench_sqrt(double x);', 'double hairbench_sqrt(double x);\ndouble hairbench_cbrt(double x);'),
     (RUST, '    pub fn hairbench_sqrt(x: f64) -> f64;\n', ''),
     (EXPORTED, 'fn hairbench_sqrt(x: f64)', 'fn hairbench_sqrt(x: f64, y: f64)'),
+    (EXPORTED, '#[unsafe(no_mangle)]\npub extern "C" fn hairbench_sqrt', 'pub extern "C" fn hairbench_sqrt'),
     # an inline function that hands its arguments on in another order, or does not store the record
     (HEADER, 'settings, positions, positions_length, frames, frames_length);', 'settings, frames, frames_length, positions, positions_length);'),
     (HEADER, '    *record = after.seats;\n', ''),

@@ -2,197 +2,136 @@
 """Tries the edits in crates/NAME/edits: each makes a crate wrong, and the prover must refuse it. Those in crates/NAME/controls are correct
 changes of the same shapes, and the prover must take them, so that an edit is not refused for its form.
 
-usage: tests/edits/try.py [--alone] [--ended FILE] [NAME...]
+usage: tests/edits/try.py [--top FOLDER] [NAME..]     FOLDER: the repository, if it is not this one
 
-They have the form of the edits in must-fail, which `rt ci` tries from nothing; here each costs a check of what it touches, over what was
-just proved (stored.py), in a copy of the crate that has what can fail by it first:
-  an edit of definitions             the laws, without functions, where these are proved so
-  edits of different functions       these, by one check (verdict.py), and the functions that they call
-  the controls                       the functions that they change, by one check, and those that they call
-  any other edit                     all but the samples, which the checker only computes
-An edit that is not refused so is tried alone in more of the crate, and last in all of it; a control that is not proved, alone in all of it. That
-verdict counts. With --alone all are tried so. With --ended, an `rt ci` is under way, FILE appears when it has ended, and the edits
-of a crate are tried once it is proved; without, `rt check` proves the crates first. Exit status: 0 where all edits are refused and all
-controls proved."""
-import argparse, collections, glob, os, queue, subprocess, sys, tempfile, threading, time
+Both have the form of the edits in must-fail/, which `rt help` describes. All are tried in a copy of the repository. There the edits stand in
+must-fail/, and `rt must-fail` tries them. The controls of a crate are made all at once, and `rt check` must prove it; where it does not, each
+is tried alone. `rt` begins both with what its checks have kept of the same text on this machine, in whatever copy, and gives again what it
+said of an edit as long as nothing changes that the edit stands on.
 
-sys.dont_write_bytecode = True
-sys.path.append(os.path.join(os.path.dirname(os.path.abspath(__file__)), '../gate'))
-import edit, functions, rooms, verdict
-from rooms import ROOT
-from stored import PART, WHOLE, Stored, WORKERS, run_dev
+An edit is refused only where `rt` says so and adds nothing: not where a proof file merely names what the edit took away, nor where the prover
+gave no verdict since it came to a limit of its own. Exit status: 0 where all edits are refused and all controls proved."""
+import argparse, os, re, shutil, subprocess, sys, tempfile, time
 
-Task = collections.namedtuple('Task', 'crate kind edits extent functions')
+HERE = os.path.dirname(os.path.dirname(os.path.dirname(os.path.abspath(__file__))))
+PARTS = ('src', 'specs', 'proofs')
+TRIED = re.compile(r'^rt: must-fail (\w+)/(\S+): (.*)$', re.M)
+REFUSED = re.compile(r'refused, as it must be(: |$)')
 
 
-def apart(a, b):
-    """Whether two edits of functions can be told apart in one check: of different functions, where none calls one whose contract is changed."""
-    (f, in_f), (g, in_g) = a, b
-    return f is not g and (in_f or not functions.calls(g, f)) and (in_g or not functions.calls(f, g))
+def read(path):
+    with open(path, encoding='utf-8') as f:
+        return f.read()
 
 
-def extent_of(found, changed):
-    """The functions that are changed, and those that they call."""
-    return functions.reached(found, [f.path for f in changed])
+def rt(folder, *words):
+    """The status of a command of rt, and what it printed."""
+    run = subprocess.run(['rt', *words], cwd=folder, stdin=subprocess.DEVNULL, stdout=subprocess.PIPE, stderr=subprocess.STDOUT)
+    return run.returncode, run.stdout.decode('utf-8', 'replace')
 
 
-def tasks_of(crate, edits, folder, lawful):
-    """Edits of functions that can be told apart make one task; any other edit is a task by itself."""
-    found, groups, single = functions.functions_of(folder), [], []
-    for e in edits:
-        changed = edit.function_of(folder, e, found)
-        if not changed:
-            single.append(Task(crate, 'edits', [e], extent_of(found, []) if lawful and edit.of_definitions(e) else PART, []))
-            continue
-        group = next((g for g in groups if all(apart(changed, c) for c in g.values())), None)
-        if group is None:
-            groups.append(group := {})
-        group[e] = changed
-    for g in groups:
-        changed = [f for f, _ in g.values()]
-        single.append(Task(crate, 'edits', list(g), extent_of(found, changed) if lawful else PART, [f.path for f in changed]))
-    return sorted(single, key=lambda t: len(t.edits), reverse=True)
+def listed(top):
+    """The crates of crates.txt."""
+    lines = [line.split('#')[0].replace(':', ' ').split() for line in read(f'{top}/crates.txt').splitlines()]
+    return [words[0] for words in lines if words]
 
 
-def task_of_controls(crate, controls, folder, lawful):
-    found = functions.functions_of(folder)
-    changed = [edit.function_of(folder, c, found) for c in controls]
-    extent = extent_of(found, [f for f, _ in changed]) if lawful and all(changed) else WHOLE
-    return Task(crate, 'controls', controls, extent, [])
+def files_of(top, crate, kind):
+    folder = f'{top}/crates/{crate}/{kind}'
+    return [f'{folder}/{name}' for name in sorted(os.listdir(folder))] if os.path.isdir(folder) else []
 
 
-def alone(task, e):
-    """The task by which it is tried next whether one edit of a task is as it must be."""
-    return task._replace(edits=[e], extent=WHOLE if task.extent == PART or task.kind == 'controls' else PART, functions=[])
+def put(top, room, crate):
+    """Has a crate of the copy stand there as in the repository."""
+    for part in PARTS:
+        source, target = (f'{folder}/crates/{crate}/{part}' for folder in (top, room))
+        shutil.rmtree(target, ignore_errors=True)
+        if os.path.isdir(source):
+            shutil.copytree(source, target)
 
 
-class Runner:
-    """Workers that take tasks, each in a room of its own for each crate."""
-
-    def __init__(self, stored):
-        self.stored, self.tasks = stored, queue.Queue()
-        self.passed, self.checks, self.failure, self.lock = {}, [], None, threading.Lock()
-        for _ in range(WORKERS):
-            threading.Thread(target=self.work, daemon=True).start()
-
-    def say(self, words):
-        with self.lock:
-            print(words, flush=True)
-
-    def work(self):
-        own = {}
-        while True:
-            task = self.tasks.get()
-            try:
-                if not self.failure:
-                    self.do(task, own)
-            except Exception as e:
-                self.failure = self.failure or e
-            self.tasks.task_done()
-
-    def do(self, task, own):
-        if task.crate not in own:
-            own[task.crate] = self.stored.room(task.crate)
-        began = time.monotonic()
-        answers = self.tried(task, own[task.crate])
-        took = time.monotonic() - began
-        self.checks.append((task.crate, task.kind, took))
-        for e, (passed, words) in zip(task.edits, answers):
-            if not passed and (task.extent != WHOLE or len(answers) > 1):
-                self.tasks.put(alone(task, e))
-                continue
-            self.passed[e] = passed
-            self.say(f'{task.kind} {task.crate}/{edit.name(e)}: {words} ({took:.0f} s' + (f' for {len(answers)})' if len(answers) > 1 else ')'))
-
-    def tried(self, task, room):
-        """(passed, words) of each edit of a task."""
-        folder = os.path.join(room, 'crates', task.crate)
-        self.stored.fresh(room, task.crate, task.extent)
-        if not edit.applied(folder, task.edits):
-            return [(False, 'BAD EDIT: an old text is not there, or there more than once')] * len(task.edits)
-        said = run_dev(room, task.crate)
-        if task.kind == 'controls':
-            return [verdict.control(said, folder)] * len(task.edits)
-        names = [task.crate + '::' + f.replace('/', '::') for f in task.functions]
-        return verdict.together(said, folder, names) if names else [verdict.alone(said, folder)]
+def made(folder, control):
+    """Changes the crate in a folder as a control says; answers whether each of its old texts stood there once."""
+    path = old = ''
+    for line in read(control).splitlines():
+        if line.startswith('file: '):
+            path = f'{folder}/{line[6:]}'
+        elif line.startswith('old: '):
+            old = line[5:]
+        elif line.startswith('new:'):
+            text = read(path)
+            if text.count(old) != 1:
+                return False
+            with open(path, 'w', encoding='utf-8') as f:
+                f.write(text.replace(old, line[4:].removeprefix(' ')))
+    return True
 
 
-def files_of(crate, kind):
-    return sorted(glob.glob(os.path.join(ROOT, 'crates', crate, kind, '*.edit')))
+def proved(top, room, crate, controls):
+    """What the crate comes to with these controls: '' where it is proved."""
+    put(top, room, crate)
+    folder = f'{room}/crates/{crate}'
+    if not all(made(folder, c) for c in controls):
+        return 'BAD EDIT: an old text is not there, or there more than once'
+    status, said = rt(folder, 'check')
+    if status == 0 and re.search('^logic=proved ', said, re.M):
+        return ''
+    return 'NOT PROVED: ' + next((line for line in said.splitlines() if ': error' in line), said[-300:])
 
 
-def try_crate(crate, asked, stored, runner):
-    folder = os.path.join(stored.folder, 'crates', crate)
-    edits, controls = files_of(crate, 'edits'), files_of(crate, 'controls')
-    runner.passed.update(dict.fromkeys(edits + controls, False))
-    if asked.alone:
-        tasks = [Task(crate, kind, [e], WHOLE, []) for kind, es in (('edits', edits), ('controls', controls)) for e in es]
-    else:
-        lawful = stored.lawful(crate)
-        if not lawful:
-            runner.say(f'edits {crate}: its laws are not proved without functions, so that each check has all of these')
-        tasks = tasks_of(crate, edits, folder, lawful) + ([task_of_controls(crate, controls, folder, lawful)] if controls else [])
-    for task in tasks:
-        runner.tasks.put(task)
+def try_controls(top, room, crate):
+    """Prints how each control fared, and answers how many were proved, of how many."""
+    controls, began, words = files_of(top, crate, 'controls'), time.monotonic(), {}
+    if controls and proved(top, room, crate, controls):
+        words = {c: proved(top, room, crate, [c]) for c in controls}
+    put(top, room, crate)
+    for c in controls:
+        print(f'controls {crate}/{os.path.basename(c)}: {words.get(c) or "proved"}', flush=True)
+    well = sum(not words.get(c) for c in controls)
+    if controls:
+        print(f'controls {crate}: {well} of {len(controls)} proved ({time.monotonic() - began:.0f} s)', flush=True)
+    return well, len(controls)
 
 
-def try_all(names, asked, stored, runner):
-    """Has each crate's edits tried once it is proved, the crates that it names before it."""
-    for crate in dict.fromkeys(c for n in names for c in rooms.below(n, stored.uses) + [n]):
-        rooms.wait(crate, asked.ended)
-        if runner.failure:
-            return
-        stored.take(crate)
-        if crate in names:
-            try_crate(crate, asked, stored, runner)
-    runner.tasks.join()
-
-
-def report(names, runner):
-    """Prints how each crate fared, and how long its checks took."""
-    total = {}
-    for kind, word in (('edits', 'refused'), ('controls', 'proved')):
-        for crate in names:
-            fared = [p for e, p in runner.passed.items() if f'/crates/{crate}/{kind}/' in e]
-            took = [t for c, k, t in runner.checks if (c, k) == (crate, kind)]
-            if fared:
-                print(f'{kind} {crate}: {sum(fared)} of {len(fared)} {word}, in {len(took)} checks of {sum(took):.0f} s')
-            total[kind] = total.get(kind, []) + fared
-    print(f'controls: {sum(total["controls"])} of {len(total["controls"])} proved')
-    print(f'edits: {sum(total["edits"])} of {len(total["edits"])} refused')
-    return bool(total['edits']) and all(runner.passed.values())
-
-
-def run(names, asked):
-    with tempfile.TemporaryDirectory() as top:
-        stored = Stored(os.path.realpath(top))
-        runner = Runner(stored)
-        try:
-            try_all(names, asked, stored, runner)
-        except BaseException as e:
-            runner.failure = e
-        runner.tasks.join()
-        if runner.failure:
-            raise runner.failure
-        stored.untouched()
-    return report(names, runner)
+def try_edits(top, room, crates):
+    """Prints what `rt must-fail` said, and answers how many edits were refused, of how many."""
+    edits = {crate: files_of(top, crate, 'edits') for crate in crates}
+    crates, began = [c for c in crates if edits[c]], time.monotonic()
+    if not crates:
+        return 0, 0
+    for crate in crates:
+        shutil.copytree(f'{top}/crates/{crate}/edits', f'{room}/crates/{crate}/must-fail')
+    status, said = rt(room, 'must-fail', *crates)
+    print(said, end='')
+    refused = {(crate, name) for crate, name, words in TRIED.findall(said) if REFUSED.match(words)}
+    total = 0
+    for crate in crates:
+        well = sum((crate, os.path.basename(e)) in refused for e in edits[crate])
+        total += well
+        print(f'edits {crate}: {well} of {len(edits[crate])} refused')
+    print(f'edits: rt must-fail ended with status {status} after {time.monotonic() - began:.0f} s', flush=True)
+    return total, sum(map(len, edits.values()))
 
 
 def main():
     parser = argparse.ArgumentParser()
-    parser.add_argument('--alone', action='store_true')
-    parser.add_argument('--ended', metavar='FILE')
+    parser.add_argument('--top', default=HERE)
     parser.add_argument('names', nargs='*', metavar='NAME')
     asked = parser.parse_args()
-    names = asked.names or [c for c in rooms.listed() if files_of(c, 'edits') or files_of(c, 'controls')]
-    if not asked.ended:
-        check = subprocess.run(['rt', 'check', *names], cwd=ROOT, stdout=subprocess.PIPE)
-        if check.returncode:
-            sys.exit(check.stdout.decode('utf-8', 'replace'))
-    try:
-        return 0 if run(names, asked) else 1
-    except RuntimeError as e:
-        sys.exit(f'edits: {e}')
+    top = os.path.abspath(asked.top)
+    with tempfile.TemporaryDirectory() as room:
+        for name in ('crates.txt', 'HANDLES'):
+            if os.path.exists(f'{top}/{name}'):
+                shutil.copy(f'{top}/{name}', room)
+        for crate in listed(top):
+            put(top, room, crate)
+        crates = [c for c in listed(top) if c in asked.names or not asked.names]
+        refused, edits = try_edits(top, room, crates)
+        fared = [try_controls(top, room, crate) for crate in crates]
+    well, controls = (sum(column) for column in zip(*fared))
+    print(f'controls: {well} of {controls} proved')
+    print(f'edits: {refused} of {edits} refused')
+    return 0 if edits and (refused, well) == (edits, controls) else 1
 
 
 sys.exit(main())

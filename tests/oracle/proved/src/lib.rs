@@ -1,5 +1,5 @@
-//! The proved library as a `Machine`: crate bench_c, built by `rt staticlib bench_c`. Every call is sound: an
-//! area is lent as a slice's own pointer and length, and the library keeps no pointer.
+//! The proved library as a `Machine`: crate bench_c, built by `rt lib` there. Every call is sound: an area is
+//! lent as a slice's own pointer and length, and the library keeps no pointer.
 
 use machine::exported::*;
 use machine::{Areas, Load, Looked, Machine, Pick, Record, StepNumbers, Stepped};
