@@ -21,7 +21,7 @@
  *
  * Structs go by value, in and out, as the System V ABI of x86-64 has it.
  *
- * Link with -lm: the library takes fmod from there, and memcpy and memset from the C library. */
+ * The library takes memcpy and memset from the C library, and nothing else. */
 #ifndef HAIRBENCH_H
 #define HAIRBENCH_H
 
