@@ -84,7 +84,7 @@ fn edge_fits(positions: &[f64], i: usize) -> bool
 // Whether every edge between the n vertices has.
 #[tactic(auto, unfolding(matrix::specs::System::every, matrix::specs::Parts::table, crate::specs::Given::edges_fit))]
 pub(crate) fn edges_fit(positions: &[f64], n: usize) -> bool
-    requires le_n { 1 ≤ n }
+    requires n_above_0 { 1 ≤ n }
     requires positions_long { 3 * n ≤ length positions.now }
     ensures { result ≡ edges_fit n (rows3 positions.now 0 n) }
 {

@@ -42,7 +42,7 @@ fn orthonormal(area: &[f64], framex: usize, xyz: usize, n: usize, i: usize) -> V
 
 // Every edge's frame becomes a unit vector across the edge; the last vertex has no edge.
 pub(crate) fn orthonormalize_framex_for_hair(area: &mut [f64], framex: usize, xyz: usize, n: usize)
-    requires le_n { 1 ≤ n }
+    requires n_above_0 { 1 ≤ n }
     requires framex_in_area { framex + 3 * n ≤ length area.old }
     requires xyz_in_area { xyz + 3 * n ≤ length area.old }
     requires apart { Apart framex (3 * n) xyz (3 * n) }
@@ -111,7 +111,7 @@ fn turn_edge(
 
 // Every frame whose twist is not pinned turns; the answer is whether 10 declines none.
 fn turn_frames(area: &mut [f64], xyz: usize, framex: usize, u: usize, pins: &[u8], n: usize) -> bool
-    requires le_n { 1 ≤ n }
+    requires n_above_0 { 1 ≤ n }
     requires xyz_in_area { xyz + 3 * n ≤ length area.old }
     requires framex_in_area { framex + 3 * n ≤ length area.old }
     requires u_in_area { u + 4 * n ≤ length area.old }
@@ -175,7 +175,7 @@ pub(crate) fn update_solution_hair(
     pins: &[u8],
     n: usize,
 ) -> bool
-    requires le_n { 2 ≤ n }
+    requires n_above_1 { 2 ≤ n }
     requires xyz_in_area { xyz + 3 * n ≤ length area.old }
     requires framex_in_area { framex + 3 * n ≤ length area.old }
     requires u_in_area { u + 4 * n ≤ length area.old }

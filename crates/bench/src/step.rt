@@ -25,8 +25,8 @@ pub(crate) fn update_static(
     settings: Settings,
     pick: Pick,
 ) -> StepAnswer
-    requires le_n { (2 ≤ n) × (n ≤ 32) }
-    requires pick_value { pick_fits n pick ≡ true }
+    requires n_in_range { (2 ≤ n) × (n ≤ 32) }
+    requires good_pick { pick_fits n pick ≡ true }
     requires rest_len { length rest.now ≡ rest_part }
     requires drape_len { length drape.old ≡ drape_part }
     requires pins_len { length pins.now ≡ pin_part }
@@ -53,8 +53,8 @@ pub(crate) fn update_dynamic(
     pick: Pick,
     dt: f64,
 ) -> StepAnswer
-    requires le_n { (2 ≤ n) × (n ≤ 32) }
-    requires pick_value { pick_fits n pick ≡ true }
+    requires n_in_range { (2 ≤ n) × (n ≤ 32) }
+    requires good_pick { pick_fits n pick ≡ true }
     requires rest_len { length rest.now ≡ rest_part }
     requires drape_len { length drape.old ≡ drape_part }
     requires pins_len { length pins.now ≡ pin_part }

@@ -26,8 +26,8 @@ fn static_on(
     pick: Pick,
 ) -> StepAnswer
     requires seat_lt_seats { seat < seats }
-    requires le_n { (2 ≤ n) × (n ≤ 32) }
-    requires pick_value { pick_fits n pick ≡ true }
+    requires n_in_range { (2 ≤ n) × (n ≤ 32) }
+    requires good_pick { pick_fits n pick ≡ true }
     requires rest_len { length rest.now ≡ rest_numbers }
     requires drape_len { length drape.old ≡ drape_numbers }
     requires pins_len { length pins.now ≡ pin_bytes }
@@ -95,8 +95,8 @@ fn dynamic_on(
     dt: f64,
 ) -> StepAnswer
     requires seat_lt_seats { seat < seats }
-    requires le_n { (2 ≤ n) × (n ≤ 32) }
-    requires pick_value { pick_fits n pick ≡ true }
+    requires n_in_range { (2 ≤ n) × (n ≤ 32) }
+    requires good_pick { pick_fits n pick ≡ true }
     requires rest_len { length rest.now ≡ rest_numbers }
     requires drape_len { length drape.old ≡ drape_numbers }
     requires pins_len { length pins.now ≡ pin_bytes }

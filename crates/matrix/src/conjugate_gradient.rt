@@ -20,9 +20,9 @@ pub struct Solve {
 
 // Along the direction, as far as the residual falls. From the residual's square to its new one.
 fn descend(work: &mut [f64], n: usize, rho: f64) -> f64
-    requires le_n { (2 ≤ n) × (n ≤ 32) }
+    requires n_in_range { (2 ≤ n) × (n ≤ 32) }
     requires work_len { length work.old ≡ work_numbers }
-    ensures result_after { solving_at n work.new result ≡ descended n (matrix_rows work.old n) (solving_at n work.old rho) }
+    ensures vectors_after { solving_at n work.new result ≡ descended n (matrix_rows work.old n) (solving_at n work.old rho) }
     ensures kept { Kept n work.old work.new }
 {
     sparse_square::mult_vec(work, n, area::P, area::AP);
@@ -34,9 +34,9 @@ fn descend(work: &mut [f64], n: usize, rho: f64) -> f64
 
 // The next direction, from the residual's squares before and after the descent.
 fn redirect(work: &mut [f64], n: usize, before: f64, rho: f64)
-    requires le_n { (2 ≤ n) × (n ≤ 32) }
+    requires n_in_range { (2 ≤ n) × (n ≤ 32) }
     requires work_len { length work.old ≡ work_numbers }
-    ensures rho_after { solving_at n work.new rho ≡ redirected before (solving_at n work.old rho) }
+    ensures vectors_after { solving_at n work.new rho ≡ redirected before (solving_at n work.old rho) }
     ensures kept { Kept n work.old work.new }
 {
     slice_of_array::scale_and_add_vec(work, area::P, rho / before, area::R, n);
@@ -44,9 +44,9 @@ fn redirect(work: &mut [f64], n: usize, before: f64, rho: f64)
 
 // From the residual alone to the state before the first iteration. Answers the residual's square.
 fn begin(work: &mut [f64], n: usize) -> f64
-    requires le_n { (2 ≤ n) × (n ≤ 32) }
+    requires n_in_range { (2 ≤ n) × (n ≤ 32) }
     requires work_len { length work.old ≡ work_numbers }
-    ensures result_after { solving_at n work.new result ≡ started n (rows4 work.old place_r n) }
+    ensures vectors_after { solving_at n work.new result ≡ started n (rows4 work.old place_r n) }
     ensures kept { Kept n work.old work.new }
 {
     slice_of_array::set_zero(work, area::U, n);
@@ -58,9 +58,9 @@ fn begin(work: &mut [f64], n: usize) -> f64
 // At most `limit` iterations, until the ratio is below the tolerance. The root of `square` is the
 // last ratio, and 0 before the first.
 fn iterate(work: &mut [f64], n: usize, first: f64, tolerance: f64, limit: usize) -> Solve
-    requires le_n { (2 ≤ n) × (n ≤ 32) }
+    requires n_in_range { (2 ≤ n) × (n ≤ 32) }
     requires work_len { length work.old ≡ work_numbers }
-    ensures ratio_after { outcome (vectors_at n work.new) result.count result.ratio ≡ iterated n (matrix_rows work.old n) (plus_one ⊘ first) tolerance limit false (outcome (vectors_at n work.old) 0 plus_zero) (solving_at n work.old first) }
+    ensures outcome_is { outcome (vectors_at n work.new) result.count result.ratio ≡ iterated n (matrix_rows work.old n) (plus_one ⊘ first) tolerance limit false (outcome (vectors_at n work.old) 0 plus_zero) (solving_at n work.old first) }
     ensures kept { Kept n work.old work.new }
 {
     let inverse = 1.0 / first;
@@ -88,9 +88,9 @@ fn iterate(work: &mut [f64], n: usize, first: f64, tolerance: f64, limit: usize)
 // The solution, for the residual and the matrix that stand in the area, is left at U; residual,
 // direction and product as the last iteration leaves them.
 pub fn conjugate_gradient(work: &mut [f64], n: usize, tolerance: f64, limit: usize) -> Solve
-    requires le_n { (2 ≤ n) × (n ≤ 32) }
+    requires n_in_range { (2 ≤ n) × (n ≤ 32) }
     requires work_len { length work.old ≡ work_numbers }
-    ensures ratio_after { outcome (vectors_at n work.new) result.count result.ratio ≡ conjugate_gradient n (matrix_rows work.old n) tolerance limit (rows4 work.old place_r n) }
+    ensures outcome_is { outcome (vectors_at n work.new) result.count result.ratio ≡ conjugate_gradient n (matrix_rows work.old n) tolerance limit (rows4 work.old place_r n) }
     ensures kept { Kept n work.old work.new }
 {
     let rho = begin(work, n);

@@ -32,7 +32,7 @@ fn length_at(xyz: &[f64], p: usize, n: usize, i: usize) -> f64
 
 // The lengths of all edges, of the positions at p, and 0 after them.
 pub fn edge_lengths(xyz: &[f64], p: usize, n: usize) -> [f64; 32]
-    requires le_n { (2 ≤ n) × (n ≤ 32) }
+    requires n_in_range { (2 ≤ n) × (n ≤ 32) }
     requires p_in_xyz { p + 3 * n ≤ length xyz.now }
     ensures { result ≡ edge_lengths (n - 1) (rows3 xyz.now p n) }
 {

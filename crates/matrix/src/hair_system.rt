@@ -50,12 +50,12 @@ fn bend_between(a: EdgeFrames, b: EdgeFrames, k: Vec3) -> Bend
 
 // One vertex i of the two from k on: its gradient, with 0 for the twist, and its blocks with both.
 fn add_stretch_row(work: &mut [f64], n: usize, i: usize, k: usize, g: Vec3, b0: Mat4, b1: Mat4)
-    requires le_n { (2 ≤ n) × (n ≤ 32) }
+    requires n_in_range { (2 ≤ n) × (n ≤ 32) }
     requires k_bound { k + 1 < n }
     requires k_le_i { (k ≤ i) × (i ≤ k + 1) }
     requires work_len { length work.old ≡ work_numbers }
     ensures work_after { system_at n work.new ≡ plus_block n i (k + 1) b1 (plus_block n i k b0 (plus_gradient n i (vec4_from_vec3 g plus_zero) (system_at n work.old))) }
-    ensures work_unchanged { after_vectors work.new ≡ after_vectors work.old }
+    ensures after_vectors_kept { after_vectors work.new ≡ after_vectors work.old }
 {
     system::add_gradient(work, n, i, vec4::from_vec3(g, 0.0));
     system::add_block(work, n, i, k, b0);
@@ -64,11 +64,11 @@ fn add_stretch_row(work: &mut [f64], n: usize, i: usize, k: usize, g: Vec3, b0: 
 
 // The element's gradients and blocks at the two vertices from k on.
 fn add_stretch(work: &mut [f64], n: usize, k: usize, e: Stretch)
-    requires le_n { (2 ≤ n) × (n ≤ 32) }
+    requires n_in_range { (2 ≤ n) × (n ≤ 32) }
     requires k_bound { k + 1 < n }
     requires work_len { length work.old ≡ work_numbers }
     ensures work_after { system_at n work.new ≡ plus_element n (stretch_element k e) (system_at n work.old) }
-    ensures work_unchanged { after_vectors work.new ≡ after_vectors work.old }
+    ensures after_vectors_kept { after_vectors work.new ≡ after_vectors work.old }
 {
     let g0 = e.dw0;
     let g1 = e.dw1;
@@ -82,12 +82,12 @@ fn add_stretch(work: &mut [f64], n: usize, k: usize, e: Stretch)
 
 // One vertex i of the three from k on: its gradient, and its blocks with each of them.
 fn add_bend_row(work: &mut [f64], n: usize, i: usize, k: usize, g: Vec4, row: BendRow)
-    requires le_n { (2 ≤ n) × (n ≤ 32) }
+    requires n_in_range { (2 ≤ n) × (n ≤ 32) }
     requires k_bound { k + 2 < n }
     requires k_le_i { (k ≤ i) × (i ≤ k + 2) }
     requires work_len { length work.old ≡ work_numbers }
     ensures work_after { system_at n work.new ≡ plus_block n i (k + 2) row.b2 (plus_block n i (k + 1) row.b1 (plus_block n i k row.b0 (plus_gradient n i g (system_at n work.old)))) }
-    ensures work_unchanged { after_vectors work.new ≡ after_vectors work.old }
+    ensures after_vectors_kept { after_vectors work.new ≡ after_vectors work.old }
 {
     let b0 = row.b0;
     let b1 = row.b1;
@@ -100,11 +100,11 @@ fn add_bend_row(work: &mut [f64], n: usize, i: usize, k: usize, g: Vec4, row: Be
 
 // The element's gradients and blocks at the three vertices from k on.
 fn add_bend(work: &mut [f64], n: usize, k: usize, e: Bend)
-    requires le_n { (2 ≤ n) × (n ≤ 32) }
+    requires n_in_range { (2 ≤ n) × (n ≤ 32) }
     requires k_bound { k + 2 < n }
     requires work_len { length work.old ≡ work_numbers }
     ensures work_after { system_at n work.new ≡ plus_element n (bend_element k e) (system_at n work.old) }
-    ensures work_unchanged { after_vectors work.new ≡ after_vectors work.old }
+    ensures after_vectors_kept { after_vectors work.new ≡ after_vectors work.old }
 {
     let g0 = e.dw0;
     let g1 = e.dw1;
@@ -127,12 +127,12 @@ fn add_stretches(
     k: f64,
     w: f64,
 ) -> f64
-    requires le_n { (2 ≤ n) × (n ≤ 32) }
+    requires n_in_range { (2 ≤ n) × (n ≤ 32) }
     requires def_value { def.now ≡ edge_lengths (n - 1) (rows3 work.old place_positions n) }
     requires work_len { length work.old ≡ work_numbers }
     ensures value { result ≡ sum_energies w (stretches_by n ini.now (rows3 work.old place_positions n) k) }
     ensures work_after { system_at n work.new ≡ plus_elements n (stretches_by n ini.now (rows3 work.old place_positions n) k) (system_at n work.old) }
-    ensures work_unchanged { after_vectors work.new ≡ after_vectors work.old }
+    ensures after_vectors_kept { after_vectors work.new ≡ after_vectors work.old }
 {
     let mut sum = w;
     let mut i = 0;
@@ -157,7 +157,7 @@ fn add_bends(
     k: Vec3,
     w: f64,
 ) -> f64
-    requires le_n { (2 ≤ n) × (n ≤ 32) }
+    requires n_in_range { (2 ≤ n) × (n ≤ 32) }
     requires rest_long { 3 * n ≤ length rest.now }
     requires axes_long { 3 * n ≤ length axes.now }
     requires ini_value { ini.now ≡ edge_lengths (n - 1) (rows3 rest.now 0 n) }
@@ -165,7 +165,7 @@ fn add_bends(
     requires work_len { length work.old ≡ work_numbers }
     ensures value { result ≡ sum_energies w (bends n (shape (rows3 rest.now 0 n) (rows3 axes.now 0 n)) (staged_shape n work.old) k) }
     ensures work_after { system_at n work.new ≡ plus_elements n (bends n (shape (rows3 rest.now 0 n) (rows3 axes.now 0 n)) (staged_shape n work.old) k) (system_at n work.old) }
-    ensures work_unchanged { after_vectors work.new ≡ after_vectors work.old }
+    ensures after_vectors_kept { after_vectors work.new ≡ after_vectors work.old }
 {
     let mut sum = w;
     let mut a = edges::frames_at(work, rest, axes, n, 0, ini[0], def[0]);
@@ -183,10 +183,10 @@ fn add_bends(
 
 // The system of no element: every number that n vertices use becomes +0.
 fn clear(work: &mut [f64], n: usize)
-    requires le_n { (2 ≤ n) × (n ≤ 32) }
+    requires n_in_range { (2 ≤ n) × (n ≤ 32) }
     requires work_len { length work.old ≡ work_numbers }
     ensures work_after { system_at n work.new ≡ assembled n [] }
-    ensures work_unchanged { after_vectors work.new ≡ after_vectors work.old }
+    ensures after_vectors_kept { after_vectors work.new ≡ after_vectors work.old }
 {
     slice_of_array::set_zero(work, area::R, n);
     slice_of_array::set_zero(work, 0, 4 * (5 * n - 6));
@@ -202,13 +202,13 @@ pub fn wdwddw_hair_system(
     stretch: f64,
     bendtwist: Vec3,
 ) -> f64
-    requires le_n { (2 ≤ n) × (n ≤ 32) }
+    requires n_in_range { (2 ≤ n) × (n ≤ 32) }
     requires rest_long { 3 * n ≤ length rest.now }
     requires axes_long { 3 * n ≤ length axes.now }
     requires work_len { length work.old ≡ work_numbers }
     ensures value { result ≡ hair_energy n (shape (rows3 rest.now 0 n) (rows3 axes.now 0 n)) (staged_shape n work.old) stretch bendtwist }
     ensures work_after { system_at n work.new ≡ hair_system n (shape (rows3 rest.now 0 n) (rows3 axes.now 0 n)) (staged_shape n work.old) stretch bendtwist }
-    ensures work_unchanged { after_vectors work.new ≡ after_vectors work.old }
+    ensures after_vectors_kept { after_vectors work.new ≡ after_vectors work.old }
 {
     clear(work, n);
     let ini = edges::edge_lengths(rest, 0, n);

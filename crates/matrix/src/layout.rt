@@ -32,7 +32,7 @@ pub fn row_length(n: usize, i: usize) -> usize
 // two and the last two rows lack.
 pub fn row_start(n: usize, i: usize) -> usize
     requires i_lt_n { i < n }
-    requires le_n { 2 ≤ n }
+    requires n_above_1 { 2 ≤ n }
     requires n_bound { n ≤ 32 }
     ensures { result ≡ row_start n i }
 {
@@ -45,7 +45,7 @@ pub fn row_start(n: usize, i: usize) -> usize
 // Where among all blocks the one of row i and column j stands.
 pub fn block_place(n: usize, i: usize, j: usize) -> usize
     requires near { Near n i j }
-    requires le_n { (2 ≤ n) × (n ≤ 32) }
+    requires n_in_range { (2 ≤ n) × (n ≤ 32) }
     ensures { result ≡ block_place n i j }
 {
     let start = row_start(n, i);

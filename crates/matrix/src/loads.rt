@@ -63,11 +63,11 @@ fn pulled(c: Vec3, g: Vec4) -> Vec4
 
 // c added to the gradient of vertex v.
 fn pull(work: &mut [f64], n: usize, v: usize, c: Vec3)
-    requires le_n { (2 ≤ n) × (n ≤ 32) }
+    requires n_in_range { (2 ≤ n) × (n ≤ 32) }
     requires v_lt_n { v < n }
     requires work_len { length work.old ≡ work_numbers }
     ensures work_after { system_at n work.new ≡ with_pull n v c (system_at n work.old) }
-    ensures work_unchanged { after_vectors work.new ≡ after_vectors work.old }
+    ensures after_vectors_kept { after_vectors work.new ≡ after_vectors work.old }
 {
     let at = area::R + 4 * v;
     let g = rows::load4(work, at);
@@ -76,11 +76,11 @@ fn pull(work: &mut [f64], n: usize, v: usize, c: Vec3)
 
 // Vertex v is pulled from its staged position to the goal.
 pub fn add_pick(work: &mut [f64], n: usize, v: usize, goal: Vec3)
-    requires le_n { (2 ≤ n) × (n ≤ 32) }
+    requires n_in_range { (2 ≤ n) × (n ≤ 32) }
     requires v_lt_n { v < n }
     requires work_len { length work.old ≡ work_numbers }
     ensures work_after { system_at n work.new ≡ with_pick n v (vec3_at (rows3 work.old place_positions n) v) goal (system_at n work.old) }
-    ensures work_unchanged { after_vectors work.new ≡ after_vectors work.old }
+    ensures after_vectors_kept { after_vectors work.new ≡ after_vectors work.old }
 {
     let p = rows::load3(work, area::POSITIONS + 3 * v);
     let c = vec3::scale(vec3::sub(p, goal), PICK_STIFFNESS);
@@ -91,10 +91,10 @@ pub fn add_pick(work: &mut [f64], n: usize, v: usize, goal: Vec3)
 // 1 / (dt dt) on the diagonal of every vertex: positions only.
 #[tactic(auto, unfolding(crate::specs::Loads::with_inertia))]
 pub fn add_inertia(work: &mut [f64], n: usize, dt: f64)
-    requires le_n { (2 ≤ n) × (n ≤ 32) }
+    requires n_in_range { (2 ≤ n) × (n ≤ 32) }
     requires work_len { length work.old ≡ work_numbers }
     ensures work_after { system_at n work.new ≡ with_inertia n dt (system_at n work.old) }
-    ensures work_unchanged { after_vectors work.new ≡ after_vectors work.old }
+    ensures after_vectors_kept { after_vectors work.new ≡ after_vectors work.old }
 {
     system::add_to_diagonals(work, n, 1.0 / (dt * dt));
 }

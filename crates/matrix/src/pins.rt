@@ -117,12 +117,12 @@ fn pinned_columns(diagonal: bool) -> Mat4
 
 // The block of row i and column j gets its pins.
 fn fix_block(work: &mut [f64], pins: &[u8], n: usize, i: usize, j: usize)
-    requires le_n { (2 ≤ n) × (n ≤ 32) }
+    requires n_in_range { (2 ≤ n) × (n ≤ 32) }
     requires near { Near n i j }
     requires pins_long { 4 * n ≤ length pins.now }
     requires work_len { length work.old ≡ work_numbers }
     ensures work_after { system_at n work.new ≡ fixed_where n pins.now (same_pair i j) (system_at n work.old) }
-    ensures work_unchanged { after_vectors work.new ≡ after_vectors work.old }
+    ensures after_vectors_kept { after_vectors work.new ≡ after_vectors work.old }
 {
     let at = 16 * layout::block_place(n, i, j);
     let b = rows::load_block(work, at);
@@ -132,12 +132,12 @@ fn fix_block(work: &mut [f64], pins: &[u8], n: usize, i: usize, j: usize)
 
 // The blocks of row i get their pins, by columns from the first that the row has to the last.
 fn fix_row(work: &mut [f64], pins: &[u8], n: usize, i: usize)
-    requires le_n { (2 ≤ n) × (n ≤ 32) }
+    requires n_in_range { (2 ≤ n) × (n ≤ 32) }
     requires i_lt_n { i < n }
     requires pins_long { 4 * n ≤ length pins.now }
     requires work_len { length work.old ≡ work_numbers }
     ensures work_after { system_at n work.new ≡ fixed_where n pins.now (λ p q. eqb i p) (system_at n work.old) }
-    ensures work_unchanged { after_vectors work.new ≡ after_vectors work.old }
+    ensures after_vectors_kept { after_vectors work.new ≡ after_vectors work.old }
 {
     let mut j = i - layout::count_before(i);
     let end = i + layout::count_after(n, i) + 1;
@@ -150,11 +150,11 @@ fn fix_row(work: &mut [f64], pins: &[u8], n: usize, i: usize)
 // The matrix of n vertices gets 0 in the rows and the columns of pinned numbers, and 1 where such a
 // row and its own column meet. The gradient stays, and so does what stands after the vectors.
 pub(crate) fn set_fixed_bc(work: &mut [f64], pins: &[u8], n: usize)
-    requires le_n { (2 ≤ n) × (n ≤ 32) }
+    requires n_in_range { (2 ≤ n) × (n ≤ 32) }
     requires pins_long { 4 * n ≤ length pins.now }
     requires work_len { length work.old ≡ work_numbers }
     ensures work_after { system_at n work.new ≡ with_fixed n pins.now (system_at n work.old) }
-    ensures work_unchanged { after_vectors work.new ≡ after_vectors work.old }
+    ensures after_vectors_kept { after_vectors work.new ≡ after_vectors work.old }
 {
     let mut i = 0;
     while i < n {
@@ -165,11 +165,11 @@ pub(crate) fn set_fixed_bc(work: &mut [f64], pins: &[u8], n: usize)
 
 // The whole system of n vertices gets its pins.
 pub fn fix_system(work: &mut [f64], pins: &[u8], n: usize)
-    requires le_n { (2 ≤ n) × (n ≤ 32) }
+    requires n_in_range { (2 ≤ n) × (n ≤ 32) }
     requires pins_long { 4 * n ≤ length pins.now }
     requires work_len { length work.old ≡ work_numbers }
     ensures work_after { system_at n work.new ≡ with_pins n pins.now (system_at n work.old) }
-    ensures work_unchanged { after_vectors work.new ≡ after_vectors work.old }
+    ensures after_vectors_kept { after_vectors work.new ≡ after_vectors work.old }
 {
     set_fix_dof_to_rhs_vector(work, area::R, pins, n);
     set_fixed_bc(work, pins, n);

@@ -112,7 +112,7 @@ fn row_product(row: &[f64], x: &[f64], n: usize, i: usize, old: Vec4) -> Vec4
 fn row_times(work: &[f64], n: usize, i: usize, at: usize, p: usize, ap: usize) -> Vec4
     requires i_lt_n { i < n }
     requires at_value { at ≡ 16 * row_start n i }
-    requires le_n { (2 ≤ n) × (n ≤ 32) }
+    requires n_in_range { (2 ≤ n) × (n ≤ 32) }
     requires matrix_numbers_in_bounds { matrix_numbers ≤ length work.now }
     requires p_in_work { p + 4 * n ≤ length work.now }
     requires ap_in_work { ap + 4 * n ≤ length work.now }
@@ -126,7 +126,7 @@ fn row_times(work: &[f64], n: usize, i: usize, at: usize, p: usize, ap: usize) -
 
 // The matrix times the vector at p, stored at ap.
 pub fn mult_vec(work: &mut [f64], n: usize, p: usize, ap: usize)
-    requires le_n { (2 ≤ n) × (n ≤ 32) }
+    requires n_in_range { (2 ≤ n) × (n ≤ 32) }
     requires matrix_numbers_le_ap { matrix_numbers ≤ ap }
     requires p_in_work { p + 4 * n ≤ length work.old }
     requires ap_in_work { ap + 4 * n ≤ length work.old }

@@ -44,7 +44,7 @@ fn blocks_are_finite(work: &[f64], at: usize, n: usize) -> bool
 
 // Whether the energy, the gradient and every block of the system of n vertices are finite.
 pub fn is_finite(energy: f64, work: &[f64], n: usize) -> bool
-    requires le_n { (2 ≤ n) × (n ≤ 32) }
+    requires n_in_range { (2 ≤ n) × (n ≤ 32) }
     requires work_len { length work.now ≡ work_numbers }
     ensures { result ≡ system_is_finite energy (system_at n work.now) }
 {
@@ -55,11 +55,11 @@ pub fn is_finite(energy: f64, work: &[f64], n: usize) -> bool
 
 // v added to the gradient of vertex i.
 pub(crate) fn add_gradient(work: &mut [f64], n: usize, i: usize, v: Vec4)
-    requires le_n { (2 ≤ n) × (n ≤ 32) }
+    requires n_in_range { (2 ≤ n) × (n ≤ 32) }
     requires i_lt_n { i < n }
     requires work_len { length work.old ≡ work_numbers }
     ensures work_after { system_at n work.new ≡ plus_gradient n i v (system_at n work.old) }
-    ensures work_unchanged { after_vectors work.new ≡ after_vectors work.old }
+    ensures after_vectors_kept { after_vectors work.new ≡ after_vectors work.old }
 {
     let at = area::R + 4 * i;
     let g = rows::load4(work, at);
@@ -68,11 +68,11 @@ pub(crate) fn add_gradient(work: &mut [f64], n: usize, i: usize, v: Vec4)
 
 // m added to the block of row i and column j.
 pub(crate) fn add_block(work: &mut [f64], n: usize, i: usize, j: usize, m: Mat4)
-    requires le_n { (2 ≤ n) × (n ≤ 32) }
+    requires n_in_range { (2 ≤ n) × (n ≤ 32) }
     requires near { Near n i j }
     requires work_len { length work.old ≡ work_numbers }
     ensures work_after { system_at n work.new ≡ plus_block n i j m (system_at n work.old) }
-    ensures work_unchanged { after_vectors work.new ≡ after_vectors work.old }
+    ensures after_vectors_kept { after_vectors work.new ≡ after_vectors work.old }
 {
     let at = 16 * layout::block_place(n, i, j);
     let b = rows::load_block(work, at);
@@ -113,10 +113,10 @@ fn diagonal_plus(m: Mat4, c: f64) -> Mat4
 
 // c added to the diagonal block of every vertex.
 pub(crate) fn add_to_diagonals(work: &mut [f64], n: usize, c: f64)
-    requires le_n { (2 ≤ n) × (n ≤ 32) }
+    requires n_in_range { (2 ≤ n) × (n ≤ 32) }
     requires work_len { length work.old ≡ work_numbers }
     ensures work_after { system_at n work.new ≡ with_diagonal n c (system_at n work.old) }
-    ensures work_unchanged { after_vectors work.new ≡ after_vectors work.old }
+    ensures after_vectors_kept { after_vectors work.new ≡ after_vectors work.old }
 {
     let mut i = 0;
     while i < n {

@@ -95,7 +95,7 @@ fn series(z: f64, divisors: &[f64]) -> f64
 // The sine of a finite angle; NaN for any other.
 pub fn sine(angle: f64) -> f64
     ensures value { result ≡ sine_of angle }
-    ensures otherwise { is_finite angle ≡ false → result ≡ nan }
+    ensures not_finite { is_finite angle ≡ false → result ≡ nan }
 {
     let a = reduced(angle);
     a * series(a * a, &SINE_DIVISORS)
@@ -104,7 +104,7 @@ pub fn sine(angle: f64) -> f64
 // The cosine of a finite angle; NaN for any other.
 pub fn cosine(angle: f64) -> f64
     ensures value { result ≡ cosine_of angle }
-    ensures otherwise { is_finite angle ≡ false → result ≡ nan }
+    ensures not_finite { is_finite angle ≡ false → result ≡ nan }
 {
     let a = reduced(angle);
     series(a * a, &COSINE_DIVISORS)

@@ -35,7 +35,7 @@ fn stage_drape(work: &mut [f64], drape: &[f64], n: usize)
 
 // The predicted working copy is staged, and the drape's frames, orthonormalised along it.
 fn stage_prediction(work: &mut [f64], drape: &[f64], pins: &[u8], n: usize, dt: f64)
-    requires le_n { (2 ≤ n) × (n ≤ 32) }
+    requires n_in_range { (2 ≤ n) × (n ≤ 32) }
     requires drape_len { length drape.now ≡ drape_part }
     requires pins_len { length pins.now ≡ pin_part }
     requires work_len { length work.old ≡ work_numbers }
@@ -52,7 +52,7 @@ fn stage_prediction(work: &mut [f64], drape: &[f64], pins: &[u8], n: usize, dt: 
 
 // Whether 7 does not decline the staged positions.
 fn staged_edges_fit(work: &[f64], n: usize) -> bool
-    requires le_n { (2 ≤ n) × (n ≤ 32) }
+    requires n_in_range { (2 ≤ n) × (n ≤ 32) }
     requires work_len { length work.now ≡ work_numbers }
     ensures { result ≡ edges_fit n (staged_shape n work.now).positions }
 {
@@ -62,11 +62,11 @@ fn staged_edges_fit(work: &[f64], n: usize) -> bool
 // The picked vertex is pulled to its goal.
 #[tactic(auto, unfolding(crate::specs::Step::pick_fits, crate::specs::Step::with_picked, matrix::specs::HairSystem::staged_shape))]
 fn add_picked(work: &mut [f64], n: usize, pick: Pick)
-    requires le_n { (2 ≤ n) × (n ≤ 32) }
-    requires pick_value { pick_fits n pick ≡ true }
+    requires n_in_range { (2 ≤ n) × (n ≤ 32) }
+    requires good_pick { pick_fits n pick ≡ true }
     requires work_len { length work.old ≡ work_numbers }
     ensures work_after { system_at n work.new ≡ with_picked n (staged_shape n work.old).positions pick (system_at n work.old) }
-    ensures work_unchanged { after_vectors work.new ≡ after_vectors work.old }
+    ensures after_vectors_kept { after_vectors work.new ≡ after_vectors work.old }
 {
     match pick {
         Pick::Nothing => {}
@@ -76,13 +76,13 @@ fn add_picked(work: &mut [f64], n: usize, pick: Pick)
 
 // The staged shape's system, with the pick; the answer is its energy, without the pick's.
 fn assemble(work: &mut [f64], rest: &[f64], n: usize, settings: Settings, pick: Pick) -> f64
-    requires le_n { (2 ≤ n) × (n ≤ 32) }
-    requires pick_value { pick_fits n pick ≡ true }
+    requires n_in_range { (2 ≤ n) × (n ≤ 32) }
+    requires good_pick { pick_fits n pick ≡ true }
     requires rest_len { length rest.now ≡ rest_part }
     requires work_len { length work.old ≡ work_numbers }
     ensures value { result ≡ energy_of n settings rest.now (staged_shape n work.old) }
     ensures work_after { system_at n work.new ≡ picked_system n settings rest.now (staged_shape n work.old) pick }
-    ensures work_unchanged { after_vectors work.new ≡ after_vectors work.old }
+    ensures after_vectors_kept { after_vectors work.new ≡ after_vectors work.old }
 {
     let bendtwist = Vec3 {
         x: settings.stiff_bendtwist0,
@@ -110,8 +110,8 @@ pub(crate) fn begin_static(
     settings: Settings,
     pick: Pick,
 ) -> Begun
-    requires le_n { (2 ≤ n) × (n ≤ 32) }
-    requires pick_value { pick_fits n pick ≡ true }
+    requires n_in_range { (2 ≤ n) × (n ≤ 32) }
+    requires good_pick { pick_fits n pick ≡ true }
     requires rest_len { length rest.now ≡ rest_part }
     requires drape_len { length drape.now ≡ drape_part }
     requires work_len { length work.old ≡ work_numbers }
@@ -142,8 +142,8 @@ pub(crate) fn begin_dynamic(
     pick: Pick,
     dt: f64,
 ) -> Begun
-    requires le_n { (2 ≤ n) × (n ≤ 32) }
-    requires pick_value { pick_fits n pick ≡ true }
+    requires n_in_range { (2 ≤ n) × (n ≤ 32) }
+    requires good_pick { pick_fits n pick ≡ true }
     requires rest_len { length rest.now ≡ rest_part }
     requires drape_len { length drape.now ≡ drape_part }
     requires pins_len { length pins.now ≡ pin_part }

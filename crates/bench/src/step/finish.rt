@@ -23,7 +23,7 @@ pub(crate) fn solution_is_finite(work: &[f64], n: usize, ratio: f64) -> bool
 
 // The staged shape moves by the solution; the answer is whether 10 does not decline it.
 pub(crate) fn update(work: &mut [f64], pins: &[u8], n: usize) -> bool
-    requires le_n { (2 ≤ n) × (n ≤ 32) }
+    requires n_in_range { (2 ≤ n) × (n ≤ 32) }
     requires pins_len { length pins.now ≡ pin_part }
     requires work_len { length work.old ≡ work_numbers }
     ensures value { result ≡ turns_fit n pins.now (staged_shape n work.old) (rows4 work.old place_u n) }

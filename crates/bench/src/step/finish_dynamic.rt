@@ -38,8 +38,8 @@ fn stage_dynamic(work: &mut [f64], drape: &[f64], pins: &[u8], n: usize, dt: f64
     requires pins_len { length pins.now ≡ pin_part }
     requires work_len { length work.old ≡ work_numbers }
     ensures value { result ≡ drape_is_finite n (dynamic_drape dt n pins.now drape.now (staged_shape n work.old)) }
-    ensures work_unchanged { staged_shape n work.new ≡ staged_shape n work.old }
-    ensures n_after { part work.new place_velocities (3 * n) ≡ flat3 (velocities_after dt n pins.now drape.now (rows3 work.new place_positions n)) }
+    ensures shape_kept { staged_shape n work.new ≡ staged_shape n work.old }
+    ensures velocities_staged { part work.new place_velocities (3 * n) ≡ flat3 (velocities_after dt n pins.now drape.now (rows3 work.new place_positions n)) }
 {
     velocities::stage_velocities(work, area::VELOCITIES, area::POSITIONS, drape, pins, n, dt);
     dynamic_is_finite(&work[..], drape, pins, n)
@@ -78,7 +78,7 @@ pub(crate) fn finish_dynamic(
     s: Solve,
     dt: f64,
 ) -> StepAnswer
-    requires le_n { (2 ≤ n) × (n ≤ 32) }
+    requires n_in_range { (2 ≤ n) × (n ≤ 32) }
     requires drape_len { length drape.old ≡ drape_part }
     requires pins_len { length pins.now ≡ pin_part }
     requires work_len { length work.old ≡ work_numbers }

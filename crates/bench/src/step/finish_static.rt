@@ -49,7 +49,7 @@ pub(crate) fn finish_static(
     energy: f64,
     s: Solve,
 ) -> StepAnswer
-    requires le_n { (2 ≤ n) × (n ≤ 32) }
+    requires n_in_range { (2 ≤ n) × (n ≤ 32) }
     requires drape_len { length drape.old ≡ drape_part }
     requires pins_len { length pins.now ≡ pin_part }
     requires work_len { length work.old ≡ work_numbers }

@@ -14,11 +14,11 @@ const ITERATIONS: usize = 1000;
 // Pins act on the system in the work area, and it is solved there.
 #[tactic(auto, unfolding(crate::specs::Step::solved, matrix::specs::System::system_at))]
 pub(crate) fn solve(work: &mut [f64], pins: &[u8], n: usize, tolerance: f64) -> Solve
-    requires le_n { (2 ≤ n) × (n ≤ 32) }
+    requires n_in_range { (2 ≤ n) × (n ≤ 32) }
     requires pins_long { 4 * n ≤ length pins.now }
     requires work_len { length work.old ≡ work_numbers }
-    ensures ratio_after { outcome (vectors_at n work.new) result.count result.ratio ≡ solved n pins.now tolerance (system_at n work.old) }
-    ensures work_unchanged { after_vectors work.new ≡ after_vectors work.old }
+    ensures outcome_is { outcome (vectors_at n work.new) result.count result.ratio ≡ solved n pins.now tolerance (system_at n work.old) }
+    ensures after_vectors_kept { after_vectors work.new ≡ after_vectors work.old }
 {
     pins::fix_system(work, pins, n);
     conjugate_gradient::conjugate_gradient(work, n, tolerance, ITERATIONS)

@@ -25,6 +25,6 @@ returns c =
     let f = c.finish_dynamic.ensures in
     let z = c.if-b-ne0.false in
     record {
-      value = rw f.value (report_on t a.pick (over a.dt) _ _ _ b z _ _ s.work_unchanged s.ratio_after);
-      drape_after = rw f.drape_after (drape_on_lem t a.pick (over a.dt) _ _ _ b z _ _ s.work_unchanged s.ratio_after);
+      value = rw f.value (report_on t a.pick (over a.dt) _ _ _ b z _ _ s.after_vectors_kept s.outcome_is);
+      drape_after = rw f.drape_after (drape_on_lem t a.pick (over a.dt) _ _ _ b z _ _ s.after_vectors_kept s.outcome_is);
     }

@@ -30,7 +30,7 @@ bounds-settings-seat c = omega (arith, (accepted (goal.at.bounds-settings-seat c
 pub dynamic_on-requires : goal.dynamic_on-requires
 dynamic_on-requires c =
     let p = accepted (goal.at.dynamic_on-requires c).Else-k-ne0 in
-    record { seat_lt_seats = p.seat; le_n = p.count; pick_value = p.pick; rest_len = p.rest; drape_len = p.drape; pins_len = p.pins; work_len = p.work }
+    record { seat_lt_seats = p.seat; n_in_range = p.count; good_pick = p.pick; rest_len = p.rest; drape_len = p.drape; pins_len = p.pins; work_len = p.work }
 
 pub returns : goal.returns
 unfolding strand_of

@@ -11,7 +11,7 @@ use Rattle.matrix.proofs.conjugate_gradient.conjugate_gradient.Goals as goal
 pub returns-then-rho : goal.returns-then-rho
 returns-then-rho c =
     let b = c.begin-rho.ensures in
-    record { ratio_after = small _ _ _ _ _ _ _ b.result_after c.if-rho.true; kept = b.kept }
+    record { outcome_is = small _ _ _ _ _ _ _ b.vectors_after c.if-rho.true; kept = b.kept }
 
 pub returns : goal.returns
 returns c =
@@ -20,6 +20,6 @@ returns c =
     let i = c.iterate.ensures in
     let same = ap (λ (m : List (List Mat4)). conjugate_gradient a.n m a.tolerance a.limit (rows4 a.work.now place_r a.n)) b.kept.matrix in
     record {
-      ratio_after = i.ratio_after ∙ large _ _ _ _ _ _ _ b.result_after c.if-rho.false ∙ same;
+      outcome_is = i.outcome_is ∙ large _ _ _ _ _ _ _ b.vectors_after c.if-rho.false ∙ same;
       kept = kept_on b.kept i.kept;
     }

@@ -13,19 +13,19 @@ loop-count-preserved c =
     let e = c.redirect.ensures in
     record {
       within = omega arith;
-      going = going_on c.loop-count.invariant.going _ _ _ c.if-limit-count.false d.result_after c.root_if_below-ratio.ensures _ c.if-ratio-tolerance.false d.kept e.rho_after e.kept (search rules);
+      going = going_on c.loop-count.invariant.going _ _ _ c.if-limit-count.false d.vectors_after c.root_if_below-ratio.ensures _ c.if-ratio-tolerance.false d.kept e.vectors_after e.kept (search rules);
     }
 
 pub returns-then-limit-count : goal.returns-then-limit-count
 returns-then-limit-count c =
     let g = c.loop-count.invariant.going in
-    record { ratio_after = going_spent g _ c.sqrt-ratio.ensures c.if-limit-count.true; kept = g.keeps }
+    record { outcome_is = going_spent g _ c.sqrt-ratio.ensures c.if-limit-count.true; kept = g.keeps }
 
 pub returns-then-ratio-tolerance : goal.returns-then-ratio-tolerance
 returns-then-ratio-tolerance c =
     let g = c.loop-count.invariant.going in
     let d = c.descend-next.ensures in
     record {
-      ratio_after = going_enough g _ _ _ c.if-limit-count.false d.result_after c.root_if_below-ratio.ensures c.if-ratio-tolerance.true;
+      outcome_is = going_enough g _ _ _ c.if-limit-count.false d.vectors_after c.root_if_below-ratio.ensures c.if-ratio-tolerance.true;
       kept = kept_on g.keeps d.kept;
     }

@@ -44,7 +44,7 @@ loop-i-preserved c =
     record {
       within = omega arith;
       edge = next;
-      gathered = gathered_more (bend_element l.i c.bend_between-e.result) g (ap (bend_element l.i) same) c.add_bend.ensures.work_after c.add_bend.ensures.work_unchanged (search rules);
+      gathered = gathered_more (bend_element l.i c.bend_between-e.result) g (ap (bend_element l.i) same) c.add_bend.ensures.work_after c.add_bend.ensures.after_vectors_kept (search rules);
     }
 
 pub returns : goal.returns
@@ -52,4 +52,4 @@ unfolding bends
 returns c =
     let g = c.loop-i.invariant.gathered in
     let e : c.args.n - 2 ≡ c.loop-i.i = omega arith in
-    rw e (record { value = g.energy; work_after = g.system; work_unchanged = g.after })
+    rw e (record { value = g.energy; work_after = g.system; after_vectors_kept = g.after })

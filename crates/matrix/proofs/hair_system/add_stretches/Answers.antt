@@ -28,7 +28,7 @@ loop-i-preserved c =
     let same = ap (λ (x : List Vec3). stretch_by x a.k l.i (get_or a.ini.now l.i nan)) (rows3_kept a.work.now l.work g.after place_positions a.n (omega arith)) in
     record {
       within = omega arith;
-      gathered = gathered_more (stretch_element l.i c.stretch_at-e.result) g (ap (stretch_element l.i) (c.stretch_at-e.ensures ∙ same)) c.add_stretch.ensures.work_after c.add_stretch.ensures.work_unchanged (search rules);
+      gathered = gathered_more (stretch_element l.i c.stretch_at-e.result) g (ap (stretch_element l.i) (c.stretch_at-e.ensures ∙ same)) c.add_stretch.ensures.work_after c.add_stretch.ensures.after_vectors_kept (search rules);
     }
 
 pub returns : goal.returns
@@ -36,4 +36,4 @@ unfolding stretches_by
 returns c =
     let g = c.loop-i.invariant.gathered in
     let e : c.args.n - 1 ≡ c.loop-i.i = omega arith in
-    rw e (record { value = g.energy; work_after = g.system; work_unchanged = g.after })
+    rw e (record { value = g.energy; work_after = g.system; after_vectors_kept = g.after })

@@ -10,7 +10,7 @@ use Rattle.matrix.proofs.hair_system.wdwddw_hair_system.Goals as goal
 
 pub add_bends-energy-requires-clause-def_value : goal.add_bends-energy-requires-clause-def_value
 add_bends-energy-requires-clause-def_value c =
-    c.edge_lengths-def.ensures ∙ ap (edge_lengths (c.args.n - 1)) (sym (rows3_kept _ _ c.add_stretches-w.ensures.work_unchanged place_positions c.args.n (omega arith)))
+    c.edge_lengths-def.ensures ∙ ap (edge_lengths (c.args.n - 1)) (sym (rows3_kept _ _ c.add_stretches-w.ensures.after_vectors_kept place_positions c.args.n (omega arith)))
 
 pub returns : goal.returns
 returns c =
@@ -20,5 +20,5 @@ returns c =
     let stretched = c.add_stretches-w.ensures in
     let bent = c.add_bends-energy.ensures in
     let damped = c.add_to_diagonals.ensures in
-    let all = assembly a.n ini a.stretch a.bendtwist _ a.work.now _ _ _ _ _ _ c.requires.le_n.1 c.edge_lengths-ini.ensures cleared.work_after cleared.work_unchanged stretched.value stretched.work_after stretched.work_unchanged bent.value bent.work_after bent.work_unchanged damped.work_after damped.work_unchanged in
-    record { value = all.0; work_after = all.1.0; work_unchanged = all.1.1 }
+    let all = assembly a.n ini a.stretch a.bendtwist _ a.work.now _ _ _ _ _ _ c.requires.n_in_range.1 c.edge_lengths-ini.ensures cleared.work_after cleared.after_vectors_kept stretched.value stretched.work_after stretched.after_vectors_kept bent.value bent.work_after bent.after_vectors_kept damped.work_after damped.after_vectors_kept in
+    record { value = all.0; work_after = all.1.0; after_vectors_kept = all.1.1 }

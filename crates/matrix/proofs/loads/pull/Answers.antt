@@ -10,6 +10,6 @@ returns c =
     let p = c.requires in
     let e = rw (c.pulled.ensures, c.load4-g.ensures) at c.store4.ensures in
     record {
-      work_after = row_changed a.n a.v (pulled a.c) _ _ p.le_n p.work_len p.v_lt_n e;
-      work_unchanged = row_changed_after a.n a.v (pulled a.c) _ _ p.le_n p.work_len p.v_lt_n e;
+      work_after = row_changed a.n a.v (pulled a.c) _ _ p.n_in_range p.work_len p.v_lt_n e;
+      after_vectors_kept = row_changed_after a.n a.v (pulled a.c) _ _ p.n_in_range p.work_len p.v_lt_n e;
     }

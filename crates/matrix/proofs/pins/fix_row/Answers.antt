@@ -36,7 +36,7 @@ loop-j-preserved c =
     let e = c.count_after.ensures in
     let k = c.args.i in
     let f = c.fix_block.ensures in
-    (omega arith, (omega arith, fixed_next (same_pair k l.j) (columns_before k l.j) (columns_before k (l.j + 1)) l.invariant.1.1 (search rules) (f.work_after, f.work_unchanged) (λ i j near. column_adds k l.j i j)))
+    (omega arith, (omega arith, fixed_next (same_pair k l.j) (columns_before k l.j) (columns_before k (l.j + 1)) l.invariant.1.1 (search rules) (f.work_after, f.after_vectors_kept) (λ i j near. column_adds k l.j i j)))
 
 pub returns : goal.returns
 returns c =
@@ -47,5 +47,5 @@ returns c =
     let e : l.j ≡ k + after n k + 1 = omega arith in
     record {
       work_after = rw e at l.invariant.1.1.system ∙ fixed_ext n c.args.pins.now (columns_before k (k + after n k + 1)) (λ p q. eqb k p) _ (every_column n k c.requires.i_lt_n);
-      work_unchanged = l.invariant.1.1.staged;
+      after_vectors_kept = l.invariant.1.1.staged;
     }

@@ -10,6 +10,6 @@ returns c =
     let e = c.set_fix_dof_to_rhs_vector.ensures in
     let f = c.set_fixed_bc.ensures in
     record {
-      work_after = f.work_after ∙ right_fixed a.n a.pins.now _ _ p.le_n p.work_len e;
-      work_unchanged = f.work_unchanged ∙ right_fixed_after a.n a.pins.now _ _ p.le_n p.work_len e;
+      work_after = f.work_after ∙ right_fixed a.n a.pins.now _ _ p.n_in_range p.work_len e;
+      after_vectors_kept = f.after_vectors_kept ∙ right_fixed_after a.n a.pins.now _ _ p.n_in_range p.work_len e;
     }

@@ -11,7 +11,7 @@ pub loop-i-preserved : goal.loop-i-preserved
 loop-i-preserved c =
     let l = c.loop-i in
     let f = c.fix_row.ensures in
-    (omega arith, fixed_next (λ p q. eqb l.i p) (λ p q. ltb p l.i) (λ p q. ltb p (l.i + 1)) l.invariant.1 (search rules) (f.work_after, f.work_unchanged) (λ i j near. number_adds l.i i))
+    (omega arith, fixed_next (λ p q. eqb l.i p) (λ p q. ltb p l.i) (λ p q. ltb p (l.i + 1)) l.invariant.1 (search rules) (f.work_after, f.after_vectors_kept) (λ i j near. number_adds l.i i))
 
 pub returns : goal.returns
 returns c =
@@ -19,5 +19,5 @@ returns c =
     let e : c.args.n ≤ l.i = search rules in
     record {
       work_after = l.invariant.1.system ∙ fixed_all c.args.n c.args.pins.now (λ p q. ltb p l.i) _ (λ i j near. lt-ltb i l.i (omega (arith, near.row)));
-      work_unchanged = l.invariant.1.staged;
+      after_vectors_kept = l.invariant.1.staged;
     }

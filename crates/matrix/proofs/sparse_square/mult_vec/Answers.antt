@@ -14,17 +14,17 @@ unfolding row_start
 loop-i-init c = record { within = omega arith; begins = refl; stored = stored_none _ _ _ }
 
 pub overflow_mul-at : goal.overflow_mul-at
-overflow_mul-at c = omega (arith, row_fits c.args.n c.loop-i.i (search rules) c.requires.le_n.0 c.requires.le_n.1)
+overflow_mul-at c = omega (arith, row_fits c.args.n c.loop-i.i (search rules) c.requires.n_in_range.0 c.requires.n_in_range.1)
 
 pub overflow_add-at : goal.overflow_add-at
-overflow_add-at c = omega (arith, row_fits c.args.n c.loop-i.i (search rules) c.requires.le_n.0 c.requires.le_n.1)
+overflow_add-at c = omega (arith, row_fits c.args.n c.loop-i.i (search rules) c.requires.n_in_range.0 c.requires.n_in_range.1)
 
 pub loop-i-preserved : goal.loop-i-preserved
 loop-i-preserved c =
     let a = c.args in
     let l = c.loop-i in
     let s = l.invariant.stored in
-    let fits = row_fits a.n l.i (search rules) c.requires.le_n.0 c.requires.le_n.1 in
+    let fits = row_fits a.n l.i (search rules) c.requires.n_in_range.0 c.requires.n_in_range.1 in
     let blocks = blocks_unstored s (16 * row_start a.n l.i) (row_length a.n l.i) (omega arith) in
     let vector = rows_unstored s a.p a.n (λ j b d x y. c.requires.apart j x (omega arith) b d) in
     let old = unstored s (a.ap + 4 * l.i) (λ j b d x y. omega arith) in

@@ -5,16 +5,16 @@ use Rattle.matrix.proofs.Products.{lent_product}
 use Rattle.matrix.proofs.sparse_square.row_times.Goals as goal
 
 pub overflow_mul-e : goal.overflow_mul-e
-overflow_mul-e c = omega (arith, row_fits c.args.n c.args.i c.requires.i_lt_n c.requires.le_n.0 c.requires.le_n.1)
+overflow_mul-e c = omega (arith, row_fits c.args.n c.args.i c.requires.i_lt_n c.requires.n_in_range.0 c.requires.n_in_range.1)
 
 pub overflow_add-e : goal.overflow_add-e
-overflow_add-e c = omega (arith, row_fits c.args.n c.args.i c.requires.i_lt_n c.requires.le_n.0 c.requires.le_n.1)
+overflow_add-e c = omega (arith, row_fits c.args.n c.args.i c.requires.i_lt_n c.requires.n_in_range.0 c.requires.n_in_range.1)
 
 pub offset_bounds-work-at : goal.offset_bounds-work-at
-offset_bounds-work-at c = omega (arith, row_fits c.args.n c.args.i c.requires.i_lt_n c.requires.le_n.0 c.requires.le_n.1)
+offset_bounds-work-at c = omega (arith, row_fits c.args.n c.args.i c.requires.i_lt_n c.requires.n_in_range.0 c.requires.n_in_range.1)
 
 pub slice_bounds-row_product-end : goal.slice_bounds-row_product-end
-slice_bounds-row_product-end c = omega (arith, row_fits c.args.n c.args.i c.requires.i_lt_n c.requires.le_n.0 c.requires.le_n.1)
+slice_bounds-row_product-end c = omega (arith, row_fits c.args.n c.args.i c.requires.i_lt_n c.requires.n_in_range.0 c.requires.n_in_range.1)
 
 pub returns : goal.returns
 returns c =

@@ -12,18 +12,18 @@ pub loop-i-init : goal.loop-i-init
 loop-i-init c = (omega arith, loaded_none _ _ _ c.requires.work_len)
 
 pub overflow_mul-at : goal.overflow_mul-at
-overflow_mul-at c = omega (arith, c.block_place-at.ensures, own_place c.args.n c.loop-i.i c.loop-i-test.true c.requires.le_n)
+overflow_mul-at c = omega (arith, c.block_place-at.ensures, own_place c.args.n c.loop-i.i c.loop-i-test.true c.requires.n_in_range)
 
 pub load_block-b-requires : goal.load_block-b-requires
-load_block-b-requires c = omega (arith, c.block_place-at.ensures, own_place c.args.n c.loop-i.i c.loop-i-test.true c.requires.le_n, c.loop-i.invariant.1.long)
+load_block-b-requires c = omega (arith, c.block_place-at.ensures, own_place c.args.n c.loop-i.i c.loop-i-test.true c.requires.n_in_range, c.loop-i.invariant.1.long)
 
 pub store_block-requires : goal.store_block-requires
-store_block-requires c = omega (arith, c.block_place-at.ensures, own_place c.args.n c.loop-i.i c.loop-i-test.true c.requires.le_n, c.loop-i.invariant.1.long)
+store_block-requires c = omega (arith, c.block_place-at.ensures, own_place c.args.n c.loop-i.i c.loop-i-test.true c.requires.n_in_range, c.loop-i.invariant.1.long)
 
 pub loop-i-preserved : goal.loop-i-preserved
 loop-i-preserved c =
     let e = rw (c.diagonal_plus.ensures, c.load_block-b.ensures, c.block_place-at.ensures) at c.store_block.ensures in
-    (omega arith, loaded_more c.loop-i.invariant.1 c.requires.le_n c.loop-i-test.true _ e (search rules))
+    (omega arith, loaded_more c.loop-i.invariant.1 c.requires.n_in_range c.loop-i-test.true _ e (search rules))
 
 pub returns : goal.returns
-returns c = record { work_after = loaded_all c.loop-i.invariant.1 (omega arith); work_unchanged = c.loop-i.invariant.1.after }
+returns c = record { work_after = loaded_all c.loop-i.invariant.1 (omega arith); after_vectors_kept = c.loop-i.invariant.1.after }

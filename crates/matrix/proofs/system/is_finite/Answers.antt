@@ -13,5 +13,5 @@ unfolding system_is_finite system_at matrix_rows
 returns c =
     let n = c.args.n in
     let w = c.args.work.now in
-    let e = ap (λ (k : ℕ). every mat4_is_finite (blocks16 w 0 k)) (sym (all_blocks n c.requires.le_n.0)) ∙ every_row mat4_is_finite w n n in
+    let e = ap (λ (k : ℕ). every mat4_is_finite (blocks16 w 0 k)) (sym (all_blocks n c.requires.n_in_range.0)) ∙ every_row mat4_is_finite w n n in
     simp (c.blocks_are_finite.ensures, c.rows_are_finite.ensures, c.is_finite.ensures, e)

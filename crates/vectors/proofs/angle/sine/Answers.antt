@@ -7,6 +7,6 @@ pub returns-clause-value : goal.returns-clause-value
 unfolding sine_of
 returns-clause-value c = cc sine_rule
 
-pub returns-clause-otherwise : goal.returns-clause-otherwise
+pub returns-clause-not_finite : goal.returns-clause-not_finite
 unfolding sine_of
-returns-clause-otherwise c h = let e = sine_not_finite c.args.angle h in cc (sine_rule, e)
+returns-clause-not_finite c h = let e = sine_not_finite c.args.angle h in cc (sine_rule, e)

@@ -16,4 +16,4 @@ unfolding picked_system part
 returns-clause-work_after c =
     let a = c.args in
     let e = c.wdwddw_hair_system-energy.ensures in
-    rw (c.add_picked.ensures.work_after, shape_kept a.work.now _ e.work_unchanged a.n, e.work_after, rest_halves a.rest.now a.n (search rules) refl refl)
+    rw (c.add_picked.ensures.work_after, shape_kept a.work.now _ e.after_vectors_kept a.n, e.work_after, rest_halves a.rest.now a.n (search rules) refl refl)

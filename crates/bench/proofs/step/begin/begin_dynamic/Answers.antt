@@ -24,7 +24,7 @@ returns-then-not-is_finite c =
     let e = c.assemble-energy.ensures in
     let s = c.add_inertia.ensures.work_after ∙ ap (with_inertia a.n a.dt) (e.work_after ∙ ap (λ (s : Shape). picked_system a.n a.settings a.rest.now s a.pick) h) in
     let x = e.value ∙ ap (energy_of a.n a.settings a.rest.now) h in
-    let k = shape_kept _ _ (c.add_inertia.ensures.work_unchanged ∙ e.work_unchanged) a.n ∙ h in
+    let k = shape_kept _ _ (c.add_inertia.ensures.after_vectors_kept ∙ e.after_vectors_kept) a.n ∙ h in
     let f = rw (c.staged_edges_fit.ensures, h) at c.if-not-staged_edges_fit.false in
     begins_eight a.n b _ _ k f (rw (c.is_finite.ensures, s, x) at c.if-not-is_finite.true)
 
@@ -37,6 +37,6 @@ returns c =
     let e = c.assemble-energy.ensures in
     let s = c.add_inertia.ensures.work_after ∙ ap (with_inertia a.n a.dt) (e.work_after ∙ ap (λ (s : Shape). picked_system a.n a.settings a.rest.now s a.pick) h) in
     let x = e.value ∙ ap (energy_of a.n a.settings a.rest.now) h in
-    let k = shape_kept _ _ (c.add_inertia.ensures.work_unchanged ∙ e.work_unchanged) a.n ∙ h in
+    let k = shape_kept _ _ (c.add_inertia.ensures.after_vectors_kept ∙ e.after_vectors_kept) a.n ∙ h in
     let f = rw (c.staged_edges_fit.ensures, h) at c.if-not-staged_edges_fit.false in
     begins_well a.n b _ _ k f (rw (c.is_finite.ensures, s, x) at c.if-not-is_finite.false) x s

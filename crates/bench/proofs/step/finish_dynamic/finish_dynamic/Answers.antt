@@ -60,4 +60,4 @@ returns c =
     let b = c.stage_dynamic.ensures.value ∙ ap (λ (p : Shape). drape_is_finite a.n (dynamic_drape a.dt a.n a.pins.now a.drape.now p)) m.work_after in
     let f : drape_is_finite a.n d ≡ true = rw b at c.if-not-stage_dynamic.false in
     let e = ends_well a.n a.pins.now now o d h k f in
-    record { value = rw e; drape_after = rw e (c.copy_dynamic.ensures a.dt v.n_after ∙ ap (dynamic_drape a.dt a.n a.pins.now a.drape.now) (v.work_unchanged ∙ m.work_after)) }
+    record { value = rw e; drape_after = rw e (c.copy_dynamic.ensures a.dt v.velocities_staged ∙ ap (dynamic_drape a.dt a.n a.pins.now a.drape.now) (v.shape_kept ∙ m.work_after)) }

@@ -16,6 +16,6 @@ returns c =
     let y = v.there ∙ ap (λ (z : List Vec3). flat3 (velocities_after a.dt a.n a.pins.now a.drape.now z)) (sym v.positions_stay) in
     record {
       value = c.dynamic_is_finite.ensures a.dt y ∙ ap (λ (s : Shape). drape_is_finite a.n (dynamic_drape a.dt a.n a.pins.now a.drape.now s)) v.shape_stays;
-      work_unchanged = v.shape_stays;
-      n_after = y;
+      shape_kept = v.shape_stays;
+      velocities_staged = y;
     }
