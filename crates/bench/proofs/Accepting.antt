@@ -13,7 +13,7 @@ use Rattle.matrix.specs.Parts.{part}
 use Rattle.matrix.specs.Rows.{row3}
 use Rattle.matrix.specs.System.{System, every, system_is_finite}
 use Rattle.matrix.specs.ConjugateGradient.{Outcome}
-use Rattle.matrix.proofs.Parts.{length_part, get_d_part}
+use Rattle.matrix.proofs.Parts.{length_part, get_or_part}
 use Rattle.matrix.proofs.Every.{and_left, and_right}
 use Rattle.bench.specs.declared.answers.Pick.{Pick}
 use Rattle.bench.specs.Areas.{vector_part, place_positions, place_frames, place_velocities}
@@ -22,7 +22,7 @@ use Rattle.bench.specs.Rows.{first, in_table}
 use Rattle.bench.specs.PinStory.{position}
 use Rattle.bench.specs.Step.{Time, begin_rows, outcome_is_finite, drape_is_finite, finish_rows, update_of}
 use Rattle.bench.specs.Accepted.{Whole, StepLeaves}
-use Rattle.bench.proofs.EveryNumber.{every_get_d}
+use Rattle.bench.proofs.EveryNumber.{every_get_or}
 use Rattle.bench.proofs.RowLaws.{demands_of, holds}
 use Rattle.bench.proofs.Components.{component, row_component, pinned_component}
 use Rattle.bench.proofs.StoredDrape.{Stays}
@@ -72,7 +72,7 @@ module _ (t : Strand) (pick : Pick) (time : Time) (h : first (update_of t pick t
     drape_finite : (p k : ℕ) → p < 3 → k < 3 * t.count → is_finite (get_or d (vector_part * p + k) nan) ≡ true
     drape_finite p k a b =
         let l = length_part d (vector_part * p) (3 * t.count) (omega (arith, s.long, w.drape, w.count)) in
-        sym (ap is_finite (get_d_part d (vector_part * p) (3 * t.count) k nan b)) ∙ every_get_d is_finite nan (part d (vector_part * p) (3 * t.count)) (drape_part_lem t.count d drape_tested p a) k (omega (arith, l))
+        sym (ap is_finite (get_or_part d (vector_part * p) (3 * t.count) k nan b)) ∙ every_get_or is_finite nan (part d (vector_part * p) (3 * t.count)) (drape_part_lem t.count d drape_tested p a) k (omega (arith, l))
 
     pinned_stays : (i j : ℕ) → i < t.count → j < 3 → get_or t.pins (4 * i + j) 0 ≢ 0 → position i j d ≡ position i j t.drape
     pinned_stays i j a b p = row_component d (3 * i) j b ∙ ap (component j) (s.positions i a) ∙ pinned_component t.pins (4 * i) (row3 t.drape (3 * i)) (new i) j b p ∙ sym (row_component t.drape (3 * i) j b)

@@ -18,14 +18,14 @@ use Rattle.matrix.specs.System.{every}
 use Rattle.matrix.specs.HairSystem.{vec3_at, Shape}
 use Rattle.matrix.proofs.Cases.{by_order, by_equality}
 use Rattle.matrix.proofs.Every.{every_all}
-use Rattle.matrix.proofs.Parts.{table_of, length_table, get_d_table, get_d_part, length_put}
+use Rattle.matrix.proofs.Parts.{table_of, length_table, get_or_table, get_or_part, length_put}
 use Rattle.matrix.proofs.Shapes.{vec3_at_lem}
 use Rattle.bench.specs.Areas.{vector_part, place_velocities, place_working_copy}
 use Rattle.bench.specs.Strand.{Strand}
 use Rattle.bench.specs.Update.{vec3_unless_pinned, moved_at, update_solution_hair}
 use Rattle.bench.specs.Step.{predicted, predicted_copy, predicted_shape, working_copy_in, dynamic_drape}
 use Rattle.bench.specs.Accepted.{Whole}
-use Rattle.bench.proofs.EveryNumber.{every_get_d}
+use Rattle.bench.proofs.EveryNumber.{every_get_or}
 use Rattle.bench.proofs.Components.{component, row_component, pinned_component, free_component}
 use Rattle.bench.proofs.StoredDrape.{Stays, stored_row}
 
@@ -50,7 +50,7 @@ module _ (t : Strand) (w : Whole t) (d : List Float) (long : length d ≡ length
   vertex_finite p k a b = by_order p 3 (λ c. tested p k c b) (λ c. let e : vector_part * p + k ≡ place_working_copy + k = omega arith in rw e (copy positions_finite h k b))
 
   past_finite : (p k : ℕ) → p < 4 → 3 * t.count ≤ k → k < vector_part → is_finite (get_or d (vector_part * p + k) nan) ≡ true
-  past_finite p k a b c = rw (past p k b c) (every_get_d is_finite nan t.drape h (vector_part * p + k) (omega (arith, w.drape)))
+  past_finite p k a b c = rw (past p k b c) (every_get_or is_finite nan t.drape h (vector_part * p + k) (omega (arith, w.drape)))
 
   placed_finite : (m : ℕ) → m < length d → is_finite (get_or d m nan) ≡ true
   placed_finite m b =
@@ -64,8 +64,8 @@ module _ (t : Strand) (w : Whole t) (d : List Float) (long : length d ≡ length
 -- ---- a static step: velocities and working copy stay
 pub kept_copy : (t : Strand) (w : Whole t) (d : List Float) → part d place_velocities (2 * vector_part) ≡ part t.drape place_velocities (2 * vector_part) → CopyIsFinite t d
 kept_copy t w d e _ h k b =
-    let same : (l : List Float) → get_or l (place_working_copy + k) nan ≡ get_or (part l place_velocities (2 * vector_part)) (vector_part + k) nan = λ l. sym (get_d_part l place_velocities (2 * vector_part) (vector_part + k) nan (omega (arith, w.count)) ∙ ap (λ (m : ℕ). get_or l m nan) (omega arith)) in
-    rw (same d, e, sym (same t.drape)) (every_get_d is_finite nan t.drape h (place_working_copy + k) (omega (arith, w.drape, w.count)))
+    let same : (l : List Float) → get_or l (place_working_copy + k) nan ≡ get_or (part l place_velocities (2 * vector_part)) (vector_part + k) nan = λ l. sym (get_or_part l place_velocities (2 * vector_part) (vector_part + k) nan (omega (arith, w.count)) ∙ ap (λ (m : ℕ). get_or l m nan) (omega arith)) in
+    rw (same d, e, sym (same t.drape)) (every_get_or is_finite nan t.drape h (place_working_copy + k) (omega (arith, w.drape, w.count)))
 
 -- ---- a dynamic step
 module _ (t : Strand) (w : Whole t) (dt : Float) (u : List Vec4) where
@@ -88,11 +88,11 @@ module _ (t : Strand) (w : Whole t) (dt : Float) (u : List Vec4) where
     module _ (p : get_or t.pins (4 * i + j) 0 ≢ 0) where
       moved_pinned : component j (vec3_at moved.positions i) ≡ component j (vec3_at (predicted_copy dt t.count t.pins t.drape) i)
       unfolding update_solution_hair moved_at predicted_shape
-      moved_pinned = ap (component j) (get_d_table t.count _ i zero_vec3 a) ∙ pinned_component t.pins (4 * i) _ _ j b p
+      moved_pinned = ap (component j) (get_or_table t.count _ i zero_vec3 a) ∙ pinned_component t.pins (4 * i) _ _ j b p
 
       predicted_pinned : component j (vec3_at (predicted_copy dt t.count t.pins t.drape) i) ≡ component j (vec3_at (working_copy_in t.count t.drape) i)
       unfolding predicted_copy predicted vec3_unless_pinned
-      predicted_pinned = ap (component j) (get_d_table t.count _ i zero_vec3 a) ∙ pinned_component t.pins (4 * i) (vec3_at (working_copy_in t.count t.drape) i) _ j b p
+      predicted_pinned = ap (component j) (get_or_table t.count _ i zero_vec3 a) ∙ pinned_component t.pins (4 * i) (vec3_at (working_copy_in t.count t.drape) i) _ j b p
 
       copy_pinned : get_or after (place_working_copy + 3 * i + j) nan ≡ get_or t.drape (place_working_copy + 3 * i + j) nan
       copy_pinned =
@@ -119,4 +119,4 @@ module _ (t : Strand) (w : Whole t) (dt : Float) (u : List Vec4) where
       rw e
       (by_equality (get_or t.pins (4 * (k / 3) + k % 3) 0) 0
       (λ p. rw (copy_free (k / 3) (k % 3) a b s p) (positions (3 * (k / 3) + k % 3) (omega arith)))
-      (λ p. rw (copy_pinned (k / 3) (k % 3) a b p) (every_get_d is_finite nan t.drape h (place_working_copy + 3 * (k / 3) + k % 3) (omega (arith, w.drape, w.count)))))
+      (λ p. rw (copy_pinned (k / 3) (k % 3) a b p) (every_get_or is_finite nan t.drape h (place_working_copy + 3 * (k / 3) + k % 3) (omega (arith, w.drape, w.count)))))

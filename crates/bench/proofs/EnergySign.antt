@@ -28,7 +28,7 @@ use Rattle.bench.specs.Asks.{Request, load, unload, pin, look, companion, step, 
 use Rattle.bench.specs.Requests.{case_at}
 use Rattle.bench.specs.Calls.{case_of, done_of, number_of, answer_of}
 use Rattle.bench.specs.EnergySign.{NoMinus, EnergyHasNoMinus}
-use Rattle.bench.proofs.EveryNumber.{every_get_d}
+use Rattle.bench.proofs.EveryNumber.{every_get_or}
 use Rattle.bench.proofs.RowLaws.{demands_of}
 use Rattle.bench.proofs.Entered.{answer_refused, entered}
 use Rattle.bench.proofs.SeatParts.{finite_zero}
@@ -48,7 +48,7 @@ tested x h = plus_side x (not-true _ (and_right (is_finite x) _ h))
 energy_sign : (n : ℕ) (g : Settings) (rest : List Float) (staged : Shape) → good_settings g ≡ true → Sign plus (energy_of n g rest staged)
 unfolding energy_of good_settings
 energy_sign n g rest staged h =
-    let at : (i : ℕ) → i < length (setting_numbers g) → Side plus (get_or (setting_numbers g) i plus_zero) = λ i b. tested _ (every_get_d not_negative plus_zero (setting_numbers g) h i b) in
+    let at : (i : ℕ) → i < length (setting_numbers g) → Side plus (get_or (setting_numbers g) i plus_zero) = λ i b. tested _ (every_get_or not_negative plus_zero (setting_numbers g) h i b) in
     energy_has_plus n _ staged _ _ (at 0 (omega arith)) (at 1 (omega arith)) (at 2 (omega arith)) (at 3 (omega arith))
 
 step_energy : (t : Strand) (p : Pick) (d : Time) → good_settings t.settings ≡ true → first (update_of t p d).rows ≡ 0 → NoMinus (update_of t p d).energy

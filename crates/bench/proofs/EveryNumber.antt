@@ -41,8 +41,8 @@ module _ {A : Type 0} (t : A → Bool) where
   every_part o n l e = every_take n (drop o l) (every_drop o l e)
 
   -- the element at k; x stands for those past the end
-  pub every_get_d : (x : A) (l : List A) → every t l ≡ true → (k : ℕ) → k < length l → t (get_or l k x) ≡ true
-  every_get_d x l h k b = every_at t (length l) (λ i. get_or l i x) (ap (every t) (table_of x l) ∙ h) k b
+  pub every_get_or : (x : A) (l : List A) → every t l ≡ true → (k : ℕ) → k < length l → t (get_or l k x) ≡ true
+  every_get_or x l h k b = every_at t (length l) (λ i. get_or l i x) (ap (every t) (table_of x l) ∙ h) k b
 
   -- what passes u passes t
   pub every_weaken : (u : A → Bool) → ((x : A) → u x ≡ true → t x ≡ true) → (l : List A) → every u l ≡ true → every t l ≡ true

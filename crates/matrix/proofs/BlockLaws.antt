@@ -19,7 +19,7 @@ use Rattle.matrix.specs.Blocks.{matrix_of, block_in}
 use Rattle.matrix.specs.Area.{place_r, work_numbers, after_vectors}
 use Rattle.matrix.specs.System.{system_at}
 use Rattle.matrix.specs.HairSystem.{same_pair}
-use Rattle.matrix.proofs.Parts.{table_ext, get_d_table}
+use Rattle.matrix.proofs.Parts.{table_ext, get_or_table}
 use Rattle.matrix.proofs.Products.{row_at_lem, block_unstored}
 use Rattle.matrix.proofs.RowLaws.{unstored}
 use Rattle.matrix.proofs.RowsPut.{RowsPut, rows_put, after_kept}
@@ -34,8 +34,8 @@ matrix_ext n f g h = table_ext n _ _ (λ i a. table_ext (row_length n i) _ _ (λ
 pub block_in_lem : (n : ℕ) (f : ℕ → ℕ → Mat4) {i j : ℕ} → Near n i j → block_in n (matrix_of n f) i j ≡ f i j
 unfolding block_in matrix_of
 block_in_lem n f {i} {j} near =
-    ap (λ (l : List Mat4). get_or l (column_place n i j) zero_block) (get_d_table n (λ k. table (row_length n k) (λ c. f k (column_at n k c))) i [] near.row)
-    ∙ get_d_table (row_length n i) (λ c. f i (column_at n i c)) (column_place n i j) zero_block (place_within near)
+    ap (λ (l : List Mat4). get_or l (column_place n i j) zero_block) (get_or_table n (λ k. table (row_length n k) (λ c. f k (column_at n k c))) i [] near.row)
+    ∙ get_or_table (row_length n i) (λ c. f i (column_at n i c)) (column_place n i j) zero_block (place_within near)
     ∙ ap (f i) (column_of_place near)
 
 -- ---- the blocks of the area

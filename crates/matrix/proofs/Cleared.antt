@@ -13,7 +13,7 @@ use Rattle.matrix.specs.Layout.{block_place, Near}
 use Rattle.matrix.specs.Area.{place_r, work_numbers, after_vectors}
 use Rattle.matrix.specs.System.{system_at}
 use Rattle.matrix.specs.HairSystem.{sum_gradients, sum_blocks, assembled}
-use Rattle.matrix.proofs.Parts.{get_d_table}
+use Rattle.matrix.proofs.Parts.{get_or_table}
 use Rattle.matrix.proofs.RowLaws.{length_zeros, unstored}
 use Rattle.matrix.proofs.Products.{row_at_lem}
 use Rattle.matrix.proofs.RowsPut.{RowsPut, rows_put, after_kept}
@@ -22,7 +22,7 @@ use Rattle.matrix.proofs.BlockLaws.{block_at, holds_system}
 
 zero_at : {w v : List Float} {o n : ℕ} → RowsPut w v o n (zero_rows n) → (i k : ℕ) → i < n → k ≡ o + 4 * i → row4 v k ≡ zero_row
 unfolding zero_rows
-zero_at {w} {v} {o} {n} p i k h e = sym (row_at_lem zero_row v o n i k h e) ∙ ap (λ (l : List Vec4). get_or l i zero_row) p.there ∙ get_d_table n (λ _. zero_row) i zero_row h
+zero_at {w} {v} {o} {n} p i k h e = sym (row_at_lem zero_row v o n i k h e) ∙ ap (λ (l : List Vec4). get_or l i zero_row) p.there ∙ get_or_table n (λ _. zero_row) i zero_row h
 
 module _ (n : ℕ) (w w₁ w₂ : List Float) (h : (2 ≤ n) × (n ≤ 32)) (long : length w ≡ work_numbers) (e₁ : w₁ ≡ put w place_r (flat4 (zero_rows n))) (e₂ : w₂ ≡ put w₁ 0 (flat4 (zero_rows (4 * (5 * n - 6))))) where
   c₁ : RowsPut w w₁ place_r n (zero_rows n)

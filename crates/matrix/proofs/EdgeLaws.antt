@@ -16,11 +16,11 @@ use Rattle.elements.specs.Bend.{wdwdwdw_darboux_rod_hair_approx_hessian}
 use Rattle.matrix.specs.Parts.{table}
 use Rattle.matrix.specs.HairSystem.{Shape, rod_of, stretch_element, stretch_at, stretches, bend_at}
 use Rattle.matrix.specs.Edges.{length_at, edge_lengths, stretch_by, stretches_by, frame_at, frames_at, bend_between}
-use Rattle.matrix.proofs.Parts.{length_table, table_ext, get_d_table, get_d_inside, put_none, put_more}
+use Rattle.matrix.proofs.Parts.{length_table, table_ext, get_or_table, get_or_inside, put_none, put_more}
 
 length_of : (m : ℕ) (p : List Vec3) (i : ℕ) → i < m → m ≤ 32 → get_or (edge_lengths m p) i nan ≡ length_at p i
 unfolding edge_lengths
-length_of m p i h g = rw zero-add at (get_d_inside (replicate 32 plus_zero) 0 (table m (length_at p)) i nan (omega (arith, length_table m (length_at p), length-replicate 32 plus_zero)) (omega (arith, length_table m (length_at p)))) ∙ get_d_table m (length_at p) i nan h
+length_of m p i h g = rw zero-add at (get_or_inside (replicate 32 plus_zero) 0 (table m (length_at p)) i nan (omega (arith, length_table m (length_at p), length-replicate 32 plus_zero)) (omega (arith, length_table m (length_at p)))) ∙ get_or_table m (length_at p) i nan h
 
 -- read from what is known, of positions that are still the same
 pub length_in : {l : List Float} {p : List Vec3} (m : ℕ) (q : List Vec3) (i : ℕ) → l ≡ edge_lengths m p → q ≡ p → i < m → m ≤ 32 → get_or l i nan ≡ length_at q i

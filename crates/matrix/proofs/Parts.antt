@@ -35,14 +35,14 @@ module _ {ℓ} {A : Type ℓ} where
   length_put (a ∷ w) zero [] = refl
   length_put (a ∷ w) zero (b ∷ p) = ap suc (length_put w zero p)
 
-  pub get_d_outside : (w : List A) (o : ℕ) (p : List A) (k : ℕ) (d : A) → (o ≤ k → k < o + length p → ⊥) → get_or (put w o p) k d ≡ get_or w k d
+  pub get_or_outside : (w : List A) (o : ℕ) (p : List A) (k : ℕ) (d : A) → (o ≤ k → k < o + length p → ⊥) → get_or (put w o p) k d ≡ get_or w k d
   unfolding put
-  get_d_outside [] o p k d h = refl
-  get_d_outside (a ∷ w) (suc o) p zero d h = refl
-  get_d_outside (a ∷ w) (suc o) p (suc k) d h = get_d_outside w o p k d (λ l m. h (omega arith) (omega arith))
-  get_d_outside (a ∷ w) zero [] k d h = refl
-  get_d_outside (a ∷ w) zero (b ∷ p) zero d h = absurd (h (omega arith) (omega arith))
-  get_d_outside (a ∷ w) zero (b ∷ p) (suc k) d h = get_d_outside w zero p k d (λ l m. h (omega arith) (omega arith))
+  get_or_outside [] o p k d h = refl
+  get_or_outside (a ∷ w) (suc o) p zero d h = refl
+  get_or_outside (a ∷ w) (suc o) p (suc k) d h = get_or_outside w o p k d (λ l m. h (omega arith) (omega arith))
+  get_or_outside (a ∷ w) zero [] k d h = refl
+  get_or_outside (a ∷ w) zero (b ∷ p) zero d h = absurd (h (omega arith) (omega arith))
+  get_or_outside (a ∷ w) zero (b ∷ p) (suc k) d h = get_or_outside w zero p k d (λ l m. h (omega arith) (omega arith))
 
   -- i is the place in p, k the one in w
   read_inside : (w : List A) (o : ℕ) (p : List A) (i k : ℕ) (d : A) → k ≡ o + i → o + length p ≤ length w → i < length p → get_or (put w o p) k d ≡ get_or p i d
@@ -56,8 +56,8 @@ module _ {ℓ} {A : Type ℓ} where
   read_inside (a ∷ w) zero (x ∷ p) (suc i) zero d e h b = absurd (omega arith)
   read_inside (a ∷ w) zero (x ∷ p) (suc i) (suc k) d e h b = read_inside w zero p i k d (omega arith) (omega arith) (omega arith)
 
-  pub get_d_inside : (w : List A) (o : ℕ) (p : List A) (i : ℕ) (d : A) → o + length p ≤ length w → i < length p → get_or (put w o p) (o + i) d ≡ get_or p i d
-  get_d_inside w o p i d h b = read_inside w o p i (o + i) d refl h b
+  pub get_or_inside : (w : List A) (o : ℕ) (p : List A) (i : ℕ) (d : A) → o + length p ≤ length w → i < length p → get_or (put w o p) (o + i) d ≡ get_or p i d
+  get_or_inside w o p i d h b = read_inside w o p i (o + i) d refl h b
 
   -- ---- stores one behind the other
   put_behind : (w : List A) (o : ℕ) (p q : List A) (k : ℕ) → k ≡ o + length p → put w o (p ++ q) ≡ put (put w o p) k q
@@ -92,37 +92,37 @@ module _ {ℓ} {A : Type ℓ} where
   put_four w o a b c d = rw (put_three w o a b c, put_one (put w o (a ∷ b ∷ c ∷ [])) (o + 3) d) (sym (put_append w o (a ∷ b ∷ c ∷ []) (d ∷ [])))
 
   -- ---- parts
-  pub get_d_table : (n : ℕ) (f : ℕ → A) (i : ℕ) (d : A) → i < n → get_or (table n f) i d ≡ f i
+  pub get_or_table : (n : ℕ) (f : ℕ → A) (i : ℕ) (d : A) → i < n → get_or (table n f) i d ≡ f i
   unfolding table
-  get_d_table zero f i d h = absurd (not-suc-le-zero h)
-  get_d_table (suc n) f zero d h = refl
-  get_d_table (suc n) f (suc i) d h = get_d_table n (λ k. f (suc k)) i d (le_of_suc-le-suc h)
+  get_or_table zero f i d h = absurd (not-suc-le-zero h)
+  get_or_table (suc n) f zero d h = refl
+  get_or_table (suc n) f (suc i) d h = get_or_table n (λ k. f (suc k)) i d (le_of_suc-le-suc h)
 
   pub length_part : (w : List A) (o n : ℕ) → o + n ≤ length w → length (part w o n) ≡ n
   unfolding part
   length_part w o n h = simp (length-take, length-drop) (omega arith)
 
-  pub get_d_part : (w : List A) (o n i : ℕ) (d : A) → i < n → get_or (part w o n) i d ≡ get_or w (o + i) d
+  pub get_or_part : (w : List A) (o n i : ℕ) (d : A) → i < n → get_or (part w o n) i d ≡ get_or w (o + i) d
   unfolding part
-  get_d_part w o n i d h = get_or-take n (drop o w) i d h ∙ get_or-drop o w i d
+  get_or_part w o n i d h = get_or-take n (drop o w) i d h ∙ get_or-drop o w i d
 
   pub part_table : (d : A) (n : ℕ) (f : ℕ → A) (o m : ℕ) → o + m ≤ n → part (table n f) o m ≡ table m (λ i. f (o + i))
   part_table d n f o m h =
       let long : length (part (table n f) o m) ≡ m = length_part (table n f) o m (omega (arith, length_table n f)) in
       ext_get_or d (part (table n f) o m) (table m (λ i. f (o + i))) (long ∙ sym (length_table m _))
-      (λ i b. let c : i < m = omega arith in get_d_part (table n f) o m i d c ∙ get_d_table n f (o + i) d (omega arith) ∙ sym (get_d_table m (λ k. f (o + k)) i d c))
+      (λ i b. let c : i < m = omega arith in get_or_part (table n f) o m i d c ∙ get_or_table n f (o + i) d (omega arith) ∙ sym (get_or_table m (λ k. f (o + k)) i d c))
 
   -- ---- parts after a store: the one that was stored, and one apart from it
   pub part_put_same : (d : A) (w : List A) (o n : ℕ) (p : List A) → length p ≡ n → o + n ≤ length w → part (put w o p) o n ≡ p
   part_put_same d w o n p e h =
       let l = length_part (put w o p) o n (omega (arith, length_put w o p)) in
-      ext_get_or d (part (put w o p) o n) p (l ∙ sym e) (λ i b. get_d_part (put w o p) o n i d (omega arith) ∙ get_d_inside w o p i d (omega arith) (omega arith))
+      ext_get_or d (part (put w o p) o n) p (l ∙ sym e) (λ i b. get_or_part (put w o p) o n i d (omega arith) ∙ get_or_inside w o p i d (omega arith) (omega arith))
 
   pub part_put_apart : (d : A) (w : List A) (o : ℕ) (p : List A) (k n : ℕ) → Apart o (length p) k n → k + n ≤ length w → part (put w o p) k n ≡ part w k n
   part_put_apart d w o p k n a h =
       let l = length_part (put w o p) k n (omega (arith, length_put w o p)) in
       ext_get_or d (part (put w o p) k n) (part w k n) (l ∙ sym (length_part w k n h))
-      (λ i b. let c : i < n = omega arith in get_d_part (put w o p) k n i d c ∙ get_d_outside w o p (k + i) d (λ x y. a (k + i) x y (omega arith) (omega arith)) ∙ sym (get_d_part w k n i d c))
+      (λ i b. let c : i < n = omega arith in get_or_part (put w o p) k n i d c ∙ get_or_outside w o p (k + i) d (λ x y. a (k + i) x y (omega arith) (omega arith)) ∙ sym (get_or_part w k n i d c))
 
   -- a part put back where it was, as it was and with one element changed
   pub put_part : (w : List A) (o n : ℕ) → put w o (part w o n) ≡ w
@@ -151,7 +151,7 @@ module _ {ℓ} {A : Type ℓ} where
   part_part d w o m i n k e h b =
       let l = length_part w o m b in
       ext_get_or d (part (part w o m) i n) (part w k n) (length_part (part w o m) i n (omega arith) ∙ sym (length_part w k n (omega arith)))
-      (λ j c. let f : j < n = omega (arith, length_part (part w o m) i n (omega arith)) in let g : o + (i + j) ≡ k + j = omega arith in get_d_part (part w o m) i n j d f ∙ get_d_part w o m (i + j) d (omega arith) ∙ ap (λ (x : ℕ). get_or w x d) g ∙ sym (get_d_part w k n j d f))
+      (λ j c. let f : j < n = omega (arith, length_part (part w o m) i n (omega arith)) in let g : o + (i + j) ≡ k + j = omega arith in get_or_part (part w o m) i n j d f ∙ get_or_part w o m (i + j) d (omega arith) ∙ ap (λ (x : ℕ). get_or w x d) g ∙ sym (get_or_part w k n j d f))
 
   -- ---- a loop that stores one element a turn
   pub put_more : (w : List A) (o i : ℕ) (f : ℕ → A) → set (put w o (table i f)) (o + i) (f i) ≡ put w o (table (suc i) f)

@@ -15,7 +15,7 @@ use Rattle.matrix.specs.Parts.{part, table}
 use Rattle.matrix.specs.Rows.{zero_row, zero_block, row4, rows4, block16, blocks16}
 use Rattle.matrix.specs.Layout.{before, after, row_length, row_start}
 use Rattle.matrix.specs.SparseSquare.{add_products, row_times, matrix_rows, mult_vec}
-use Rattle.matrix.proofs.Parts.{table_ext, get_d_table, get_d_part, part_table}
+use Rattle.matrix.proofs.Parts.{table_ext, get_or_table, get_or_part, part_table}
 use Rattle.matrix.proofs.Widths.{row_of, rows_unstored_as}
 use Rattle.matrix.proofs.RowWidths.{four}
 use Rattle.matrix.proofs.RowLaws.{Stored, unstored}
@@ -54,7 +54,7 @@ part_rows d l a k o m b h e = part_table d k _ o m h ∙ table_ext m _ _ (λ i c
 
 block_at : (d : Mat4) (l : List Float) (a k o b : ℕ) → o < k → b ≡ a + 16 * o → get_or (blocks16 l a k) o d ≡ block16 l b
 unfolding blocks16
-block_at d l a k o b h e = get_d_table k _ o d h ∙ ap (block16 l) (sym e)
+block_at d l a k o b h e = get_or_table k _ o d h ∙ ap (block16 l) (sym e)
 
 pub row_at_lem : (d : Vec4) (l : List Float) (a k o b : ℕ) → o < k → b ≡ a + 4 * o → get_or (rows4 l a k) o d ≡ row4 l b
 row_at_lem = row_of four
@@ -89,10 +89,10 @@ row_part : (w : List Float) (o m k : ℕ) → k + 4 ≤ m → row4 (part w o m) 
 unfolding row4
 row_part w o m k h =
     rw (
-      get_d_part w o m k nan (omega arith),
-      get_d_part w o m (k + 1) nan (omega arith),
-      get_d_part w o m (k + 2) nan (omega arith),
-      get_d_part w o m (k + 3) nan (omega arith),
+      get_or_part w o m k nan (omega arith),
+      get_or_part w o m (k + 1) nan (omega arith),
+      get_or_part w o m (k + 2) nan (omega arith),
+      get_or_part w o m (k + 3) nan (omega arith),
       add_assoc o k 1,
       add_assoc o k 2,
       add_assoc o k 3,
@@ -150,4 +150,4 @@ row_at w n p ap k = row_times n k plus_zero plus_one (blocks16 w (16 * row_start
 
 pub product_rows : (w : List Float) (n p ap : ℕ) → table n (row_at w n p ap) ≡ mult_vec n plus_zero plus_one (matrix_rows w n) (rows4 w p n) (rows4 w ap n)
 unfolding mult_vec matrix_rows
-product_rows w n p ap = table_ext n _ _ (λ k b. rw (get_d_table n (λ (i : ℕ). blocks16 w (16 * row_start n i) (row_length n i)) k [] b, row_at_lem zero_row w ap n k (ap + 4 * k) b refl))
+product_rows w n p ap = table_ext n _ _ (λ k b. rw (get_or_table n (λ (i : ℕ). blocks16 w (16 * row_start n i) (row_length n i)) k [] b, row_at_lem zero_row w ap n k (ap + 4 * k) b refl))

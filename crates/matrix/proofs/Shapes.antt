@@ -12,7 +12,7 @@ use Rattle.matrix.specs.Rows.{row3, rows3}
 use Rattle.matrix.specs.Area.{place_positions, place_frames, after_vectors}
 use Rattle.matrix.specs.HairSystem.{vec3_at, staged_shape}
 use Rattle.matrix.specs.Parts.{part, put}
-use Rattle.matrix.proofs.Parts.{table_ext, length_part, get_d_part, get_d_inside}
+use Rattle.matrix.proofs.Parts.{table_ext, length_part, get_or_part, get_or_inside}
 use Rattle.matrix.proofs.Widths.{row_of}
 use Rattle.matrix.proofs.RowWidths.{three, row3_same}
 
@@ -27,12 +27,12 @@ rows3_same w v a b n h =
     (λ k l. row3_same w v (a + 3 * k) (b + 3 * k) (λ i j f g e. let d : i ≡ a + (i - a) = omega arith in let c : j ≡ b + (i - a) = omega arith in rw (d, c) (h (i - a) (omega arith))))
 
 pub rows3_part : (l : List Float) (o m n : ℕ) → 3 * n ≤ m → rows3 (part l o m) 0 n ≡ rows3 l o n
-rows3_part l o m n h = rows3_same (part l o m) l 0 o n (λ i f. rw (zero-add i) (get_d_part l o m i nan (omega arith)))
+rows3_part l o m n h = rows3_same (part l o m) l 0 o n (λ i f. rw (zero-add i) (get_or_part l o m i nan (omega arith)))
 
 pub rows3_stored : (w : List Float) (o : ℕ) (l : List Float) (k n : ℕ) → o + 3 * n ≤ length w → k + 3 * n ≤ length l → rows3 (put w o (part l k (3 * n))) o n ≡ rows3 l k n
 rows3_stored w o l k n h g =
     let e = length_part l k (3 * n) g in
-    rows3_same (put w o (part l k (3 * n))) l o k n (λ i f. get_d_inside w o (part l k (3 * n)) i nan (omega arith) (omega arith) ∙ get_d_part l k (3 * n) i nan f)
+    rows3_same (put w o (part l k (3 * n))) l o k n (λ i f. get_or_inside w o (part l k (3 * n)) i nan (omega arith) (omega arith) ∙ get_or_part l k (3 * n) i nan f)
 
 module _ (w v : List Float) (e : after_vectors v ≡ after_vectors w) where
   number_kept : (k : ℕ) → place_positions ≤ k → get_or v k nan ≡ get_or w k nan

@@ -25,7 +25,7 @@ use Rattle.elements.specs.declared.spring3.Stretch.{Stretch}
 use Rattle.elements.specs.declared.rod3_darboux.bend.BendRow.{BendRow}
 use Rattle.elements.specs.declared.rod3_darboux.bend.Bend.{Bend}
 use Rattle.matrix.specs.HairSystem.{stretch_element, bend_element, AtVertex, AtPair, Element, same_pair, row_plus_if, block_plus_if, plus_gradient, plus_block, add_gradients, add_blocks, plus_element, plus_elements, sum_energies, sum_gradients, sum_blocks, assembled}
-use Rattle.matrix.proofs.Parts.{table_ext, table_snoc, get_d_table}
+use Rattle.matrix.proofs.Parts.{table_ext, table_snoc, get_or_table}
 use Rattle.matrix.proofs.Products.{row_at_lem}
 use Rattle.matrix.proofs.Cases.{by_test}
 use Rattle.matrix.proofs.BlockLaws.{matrix_ext, block_in_lem, block_at, matrix_at, Holds, holds_system, holds_ext, holds_block, block_after, holds_row, row_after}
@@ -90,7 +90,7 @@ fold_gradients_lem : (n : ℕ) (f : ℕ → Vec4) (vs : List AtVertex) → fold_
 unfolding add_gradients table fold_gradients
 fold_gradients_lem n f [] = refl
 fold_gradients_lem n f (v ∷ vs) =
-    ap (λ (g : List Vec4). fold_gradients n g vs) (table_ext n _ _ (λ i b. ap (λ (x : Vec4). row_plus_if (eqb v.vertex i) x v.value) (get_d_table n f i zero_row b)))
+    ap (λ (g : List Vec4). fold_gradients n g vs) (table_ext n _ _ (λ i b. ap (λ (x : Vec4). row_plus_if (eqb v.vertex i) x v.value) (get_or_table n f i zero_row b)))
     ∙ fold_gradients_lem n (λ i. row_plus_if (eqb v.vertex i) (f i) v.value) vs
 
 parts_added : (n : ℕ) (s : System) (energy : Float) (v : AtVertex) (vs : List AtVertex) (b : AtPair) (bs : List AtPair)
@@ -155,7 +155,7 @@ element_added : (n : ℕ) (g : ℕ → Vec4) (f : ℕ → ℕ → Mat4) (e : Ele
 unfolding plus_element
 element_added n g f e =
     rw (
-      table_ext n (λ i. add_gradients (get_or (table n g) i zero_row) e.gradients i) (λ i. add_gradients (g i) e.gradients i) (λ i b. ap (λ (x : Vec4). add_gradients x e.gradients i) (get_d_table n g i zero_row b)),
+      table_ext n (λ i. add_gradients (get_or (table n g) i zero_row) e.gradients i) (λ i. add_gradients (g i) e.gradients i) (λ i b. ap (λ (x : Vec4). add_gradients x e.gradients i) (get_or_table n g i zero_row b)),
       matrix_ext n (λ i j. add_blocks (block_in n (matrix_of n f) i j) e.blocks i j) (λ i j. add_blocks (f i j) e.blocks i j) (λ i j near. ap (λ (m : Mat4). add_blocks m e.blocks i j) (block_in_lem n f near)),
     )
 

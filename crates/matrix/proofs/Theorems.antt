@@ -1,6 +1,6 @@
 -- The theorems of specs/Theorems.antt, each by its proof: without one of them this page is refused.
 use Rattle.matrix.specs.Theorems.{Theorems}
-use Rattle.matrix.proofs.Parts.{get_d_inside, get_d_outside}
+use Rattle.matrix.proofs.Parts.{get_or_inside, get_or_outside}
 use Rattle.matrix.proofs.AreaMap.{consecutive}
 use Rattle.matrix.proofs.RowPlaces.{placed, all_blocks}
 use Rattle.matrix.proofs.Columns.{place_injective}
@@ -12,8 +12,8 @@ use Rattle.matrix.proofs.Samples.{energy, assembled, loads, pins, product, limit
 
 theorems : Theorems
 theorems = record {
-  stored_inside = get_d_inside;
-  old_outside = get_d_outside;
+  stored_inside = get_or_inside;
+  old_outside = get_or_outside;
   consecutive = consecutive;
   row_start_placed = placed;
   all_blocks = all_blocks;

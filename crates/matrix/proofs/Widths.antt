@@ -9,7 +9,7 @@ use lib.ListN.{length, get_or, length-append}
 use lib.Seq.{get_or-append-add}
 use lib.Ieee.{Float, nan}
 use Rattle.matrix.specs.Parts.{Apart, part, put, table}
-use Rattle.matrix.proofs.Parts.{length_table, table_ext, table_snoc, table_of, get_d_table, length_put, get_d_outside, get_d_inside, put_append, put_none, put_part, part_put_same}
+use Rattle.matrix.proofs.Parts.{length_table, table_ext, table_snoc, table_of, get_or_table, length_put, get_or_outside, get_or_inside, put_append, put_none, put_part, part_put_same}
 
 -- how an A stands in a list, as so many numbers
 pub record Width (A : Type 0) : Type 0 where
@@ -58,7 +58,7 @@ module _ {A : Type 0} (t : Width A) where
   put_row l o h = rw (t.numbers_row l o h) (put_part l o t.wide)
 
   pub row_of : (d : A) (l : List Float) (o n i k : ℕ) → i < n → k ≡ o + t.wide * i → get_or (t.rows l o n) i d ≡ t.row l k
-  row_of d l o n i k h e = rw (t.rows_table l o n, e) (get_d_table n (λ j. t.row l (o + t.wide * j)) i d h)
+  row_of d l o n i k h e = rw (t.rows_table l o n, e) (get_or_table n (λ j. t.row l (o + t.wide * j)) i d h)
 
 -- ---- a loop that stores rows: v is w after i turns
 pub record StoredAs {A : Type 0} (t : Width A) (w v : List Float) (o : ℕ) (f : ℕ → A) (i : ℕ) : Type 0 where
@@ -78,7 +78,7 @@ module _ {A : Type 0} {t : Width A} where
 
   -- a number apart from the rows stored so far
   pub number_unstored : {w v : List Float} {o : ℕ} {f : ℕ → A} {i : ℕ} → StoredAs t w v o f i → (j : ℕ) → (o ≤ j → j < o + t.wide * i → ⊥) → get_or v j nan ≡ get_or w j nan
-  number_unstored {w} {v} {o} {f} {i} s j h = rw s.is (get_d_outside w o (t.flat (table i f)) j nan (λ l m. h l (omega (arith, length_flat_table t i f))))
+  number_unstored {w} {v} {o} {f} {i} s j h = rw s.is (get_or_outside w o (t.flat (table i f)) j nan (λ l m. h l (omega (arith, length_flat_table t i f))))
 
   -- a row apart from them, of another width and of theirs
   pub unstored_as : {B : Type 0} (s : Width B) {w v : List Float} {o : ℕ} {f : ℕ → A} {i : ℕ} → StoredAs t w v o f i → (k : ℕ) → ((j : ℕ) → k ≤ j → j < k + s.wide → o ≤ j → j < o + t.wide * i → ⊥) → s.row v k ≡ s.row w k
@@ -115,13 +115,13 @@ module _ {A : Type 0} (t : Width A) where
       row_there : (i : ℕ) → i < n → t.row v (o + t.wide * i) ≡ t.row (t.flat x) (t.wide * i)
       row_there i h =
           t.row_same v (t.flat x) (o + t.wide * i) (t.wide * i)
-          (λ p q a b c. let m : p ≡ o + q = omega arith in rw (m, e) (get_d_inside w o (t.flat x) q nan (omega (arith, full)) (omega (arith, full, within i n t.wide h))))
+          (λ p q a b c. let m : p ≡ o + q = omega arith in rw (m, e) (get_or_inside w o (t.flat x) q nan (omega (arith, full)) (omega (arith, full, within i n t.wide h))))
 
   -- what is read apart from any store
   pub rows_apart : (w : List Float) (o : ℕ) (p : List Float) (k n : ℕ) → Apart o (length p) k (t.wide * n) → t.rows (put w o p) k n ≡ t.rows w k n
   rows_apart w o p k n h =
       t.rows_table (put w o p) k n
-      ∙ table_ext n _ _ (λ i b. t.row_same (put w o p) w (k + t.wide * i) (k + t.wide * i) (λ a c x y e. let d : c ≡ a = omega arith in rw d (get_d_outside w o p a nan (λ l m. h a l m (omega arith) (omega (arith, within i n t.wide b))))))
+      ∙ table_ext n _ _ (λ i b. t.row_same (put w o p) w (k + t.wide * i) (k + t.wide * i) (λ a c x y e. let d : c ≡ a = omega arith in rw d (get_or_outside w o p a nan (λ l m. h a l m (omega arith) (omega (arith, within i n t.wide b))))))
       ∙ sym (t.rows_table w k n)
 
   pub rows_unstored_as : {B : Type 0} {s : Width B} {w v : List Float} {o : ℕ} {f : ℕ → B} {i : ℕ} → StoredAs s w v o f i → (k n : ℕ) → Apart k (t.wide * n) o (s.wide * i) → t.rows v k n ≡ t.rows w k n

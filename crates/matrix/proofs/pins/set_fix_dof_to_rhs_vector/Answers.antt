@@ -5,13 +5,13 @@ use Rattle.vectors.specs.declared.vec4.Vec4.{Vec4}
 use Rattle.matrix.specs.Parts.{put, table}
 use Rattle.matrix.specs.Rows.{zero_row, row4, rows4, flat4}
 use Rattle.matrix.specs.Pins.{row_unless_fixed, set_fix_dof_to_rhs_vector}
-use Rattle.matrix.proofs.Parts.{table_ext, get_d_table}
+use Rattle.matrix.proofs.Parts.{table_ext, get_or_table}
 use Rattle.matrix.proofs.RowLaws.{stored_none, stored_more, unstored, stored_all}
 use Rattle.matrix.proofs.pins.set_fix_dof_to_rhs_vector.Goals as goal
 
 fixed_rows : (w : List Float) (o : ℕ) (pins : List ℕ) (n : ℕ) → table n (λ k. row_unless_fixed pins (4 * k) (row4 w (o + 4 * k))) ≡ set_fix_dof_to_rhs_vector n pins (rows4 w o n)
 unfolding set_fix_dof_to_rhs_vector rows4
-fixed_rows w o pins n = table_ext n _ _ (λ i l. ap (row_unless_fixed pins (4 * i)) (sym (get_d_table n (λ k. row4 w (o + 4 * k)) i zero_row l)))
+fixed_rows w o pins n = table_ext n _ _ (λ i l. ap (row_unless_fixed pins (4 * i)) (sym (get_or_table n (λ k. row4 w (o + 4 * k)) i zero_row l)))
 
 pub loop-i-init : goal.loop-i-init
 loop-i-init c = (omega arith, stored_none _ _ _)
