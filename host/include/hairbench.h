@@ -21,7 +21,8 @@
  *
  * Structs go by value, in and out, as the System V ABI of x86-64 has it.
  *
- * The library takes memcpy and memset from the C library, and nothing else. */
+ * The code is for processors of x86-64-v2 or later. The library takes memcpy and memset from the C library, and nothing
+ * else. */
 #ifndef HAIRBENCH_H
 #define HAIRBENCH_H
 
