@@ -122,6 +122,11 @@ sqrt_below m e h =
     let limit : suc m * up e < 2 ^ 1024 * down e = ltb→lt (suc m * up e) (2 ^ 1024 * down e) (and_r (A && B && C) D h) in
     lt_of_le_of_lt (root_small binary64 (suc m * up e) (down e) 512 (down_pos e) limit) (pow-lt {i = 1586} {j = 2098} (lit< tt))
 
+-- What `sqrt_of` says of a number above 0. Where a proof cites this and does not unfold `sqrt_of`, it falls at once if the definition is another.
+pub positive_root : (m : ℕ) (e : ℤ) → sqrt_of (fin false (suc m) e) ≡ root_of binary64 (suc m * up e) (down e)
+unfolding sqrt_of
+positive_root m e = refl
+
 pub sqrt_rounded : SqrtIsRounded
 unfolding sqrt_of
 sqrt_rounded nan h p = absurd p

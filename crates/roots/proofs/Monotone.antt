@@ -19,6 +19,7 @@ use Rattle.roots.specs.WholeRoot.{whole_root}
 use Rattle.roots.specs.Sqrt.{root_of, sqrt_of}
 use Rattle.roots.specs.Correct.{SqrtIsMonotone}
 use Rattle.roots.proofs.WholeRoot.{whole_root_is, at_most}
+use Rattle.roots.proofs.Correct.{positive_root}
 
 -- twice the whole part, and one more where the root is not whole
 halves_mono : (b b' : Bool) (r q : ℕ) → r ≤ q → (r ≡ q → T b' → T b) → 2 * r + cond b 0 1 ≤ 2 * q + cond b' 0 1
@@ -108,15 +109,16 @@ ordered (fin s zero e) (inf true) p h = absurd h
 ordered (fin s zero e) (inf false) p h = tt
 ordered (fin s zero e) (fin t zero d) p h = h
 ordered (fin s zero e) (fin true (suc n) d) p h = absurd (negative_under s e n d h)
-ordered (fin s zero e) (fin false (suc n) d) p h = (in_range (root_of binary64 (suc n * up d) (down d)) (root_plus binary64 _ _)).0 s e
+ordered (fin s zero e) (fin false (suc n) d) p h = rw (positive_root n d) ((in_range (root_of binary64 (suc n * up d) (down d)) (root_plus binary64 _ _)).0 s e)
 ordered (fin true (suc m) e) y p h = absurd (negative_under false (pos 0) m e p)
 ordered (fin false (suc m) e) nan p h = absurd h
 ordered (fin false (suc m) e) (inf true) p h = absurd h
-ordered (fin false (suc m) e) (inf false) p h = (in_range (root_of binary64 (suc m * up e) (down e)) (root_plus binary64 _ _)).1
+ordered (fin false (suc m) e) (inf false) p h = rw (positive_root m e) ((in_range (root_of binary64 (suc m * up e) (down e)) (root_plus binary64 _ _)).1)
 ordered (fin false (suc m) e) (fin true n d) p h = absurd (above_of_le (fin false (suc m) e) (fin true n d) (rw suc_above tt) h)
 ordered (fin false (suc m) e) (fin false zero d) p h = absurd (above_of_le (fin false (suc m) e) (fin false zero d) (rw suc_above tt) h)
 ordered (fin false (suc m) e) (fin false (suc n) d) p h =
-    root_mono binary64 (suc m * up e) (down e) (suc n * up d) (down d) (down_pos e) (down_pos d) (le→cross (fin false (suc m) e) (fin false (suc n) d) (rw suc_above tt) (rw suc_above tt) h)
+    rw (positive_root m e, positive_root n d)
+    (root_mono binary64 (suc m * up e) (down e) (suc n * up d) (down d) (down_pos e) (down_pos d) (le→cross (fin false (suc m) e) (fin false (suc n) d) (rw suc_above tt) (rw suc_above tt) h))
 
 pub sqrt_monotone : SqrtIsMonotone
 unfolding of_bits

@@ -12,11 +12,11 @@ use lib.Ieee.Fits.{two, two-le_pos, down_pos}
 use lib.Ieee.Order.{drop}
 use lib.Ieee.Positive.{num, den}
 use Rattle.roots.specs.Sqrt.{sqrt_of}
-use Rattle.roots.specs.Correct.{Tie, SqrtNeverTies}
+use Rattle.roots.specs.Correct.{InUnits, Tie, SqrtNeverTies}
 use Rattle.roots.proofs.Spacing.{Spaced, power_split, written, one_count, spaced}
 use Rattle.roots.proofs.Nearest.{step, all_digits}
 use Rattle.roots.proofs.Root.{top, bottom, root_units, root_against}
-use Rattle.roots.proofs.Correct.{root_half, root_counted, sqrt_below}
+use Rattle.roots.proofs.Correct.{root_half, root_counted, sqrt_below, positive_root}
 
 -- an odd number of p + 1 digits: its square is not m * 2 ^ J for a smaller m and a J above 0
 odd_square : (p w k m J : ℕ) → m < 2 ^ p → 0 < J → (0 < k → 2 ^ p ≤ 2 * w) → (2 * w + 1) * 2 ^ k * ((2 * w + 1) * 2 ^ k) ≡ m * 2 ^ J → ⊥
@@ -120,7 +120,6 @@ no_tie f a c Y m j C M v g t =
             moved m J L = omega arith
 
 pub sqrt_never_ties : SqrtNeverTies
-unfolding sqrt_of
 sqrt_never_ties nan y R Y F P G r v t = absurd P
 sqrt_never_ties (inf s) y R Y F P G r v t = absurd P
 sqrt_never_ties (fin true m e) y R Y F P G r v t = absurd P
@@ -128,5 +127,6 @@ sqrt_never_ties (fin false zero e) y R Y F P G r v t = absurd P
 sqrt_never_ties (fin false (suc m) e) y R Y F P G r v t =
     let x = fin false (suc m) e in
     let w = written binary64 false m e F in
-    let is : R ≡ root_units binary64 (num x) (den x) = one_count binary64 (sqrt_of x) false false R (root_units binary64 (num x) (den x)) r (root_counted binary64 (num x) (den x) (sqrt_below m e F)) in
+    let counted : InUnits binary64 (sqrt_of x) false (root_units binary64 (num x) (den x)) = rw (positive_root m e) (root_counted binary64 (num x) (den x) (sqrt_below m e F)) in
+    let is : R ≡ root_units binary64 (num x) (den x) = one_count binary64 (sqrt_of x) false false R (root_units binary64 (num x) (den x)) r counted in
     no_tie binary64 (num x) (den x) Y (suc m) w.1.0 (down_pos e) w.0 w.1.1 (spaced binary64 y false Y G v) (rw is at t)
