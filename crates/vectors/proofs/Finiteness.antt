@@ -11,6 +11,7 @@ use lib.Ieee.{Float, nan, inf, fin, binary64, up, down, round, sum, sub, eq, of_
 use lib.Ieee.Fits.{down_pos, and_i, and_l, and_r}
 use lib.Ieee.Scale.{round_same}
 use borrow.Author.Tests.{le-ltb}
+use Rattle.std.specs.Float.{float_is_finite}
 use Rattle.vectors.specs.Finite.{is_finite, vec3_is_finite, vec4_is_finite, mat4_is_finite, FiniteTests}
 use Rattle.vectors.specs.declared.vec3.Vec3.{Vec3}
 use Rattle.vectors.specs.declared.vec4.Vec4.{Vec4}
@@ -27,7 +28,7 @@ cancelled true a c h = simp (le-ltb a a (le_refl a), sub_self a) (zero_rounded f
 cancelled false a c h = simp (le-ltb a a (le_refl a), sub_self a) (zero_rounded false c h)
 
 pub by_difference : (x : Float) → eq (sub binary64 x x) (of_bits binary64 0) ≡ is_finite x
-unfolding sub eq of_bits is_finite
+unfolding sub eq of_bits float_is_finite
 by_difference nan = refl
 by_difference (inf true) = refl
 by_difference (inf false) = refl
@@ -35,13 +36,13 @@ by_difference (fin s m e) = rw (cancelled s (m * up e * down e) (down e * down e
 
 -- ---- `is_finite` decides
 pub finite_form : (x : Float) → T (is_finite x) → (s : Bool) × ((m : ℕ) × ((e : ℤ) × (x ≡ fin s m e)))
-unfolding is_finite
+unfolding float_is_finite
 finite_form nan h = absurd h
 finite_form (inf s) h = absurd h
 finite_form (fin s m e) h = (s, (m, (e, refl)))
 
 pub other_form : (x : Float) → T (not (is_finite x)) → (x ≡ nan) ⊎ ((s : Bool) × (x ≡ inf s))
-unfolding is_finite
+unfolding float_is_finite
 other_form nan h = inl refl
 other_form (inf s) h = inr (s, refl)
 other_form (fin s m e) h = absurd h

@@ -15,6 +15,7 @@ use lib.Ieee.Exact.{HasValue, odd_sign}
 use lib.Ieee.Back.{round_whole}
 use lib.Ieee.Scale.{round_same}
 use borrow.Author.Tests.{ltb-true, leb-true, leb-false}
+use Rattle.std.specs.Float.{float_is_finite}
 use Rattle.vectors.specs.Number.{plus_zero, ◌⊘◌}
 use Rattle.vectors.specs.Finite.{is_finite}
 use Rattle.vectors.specs.Angle.{two_pi}
@@ -99,7 +100,7 @@ rem_within x f h = rw two_pi_is (of_form x f (rw two_pi_is at h))
 
 -- ---- no finite number
 pub rem_other : (x : Float) → is_finite x ≡ false → plus_zero ⊘ plus_zero ≡ rem binary64 x two_pi
-unfolding is_finite rem div of_bits
+unfolding float_is_finite rem div of_bits
 rem_other nan h = refl
 rem_other (inf s) h = refl
 rem_other (fin s m e) h = absurd (cc)
@@ -195,7 +196,7 @@ from_value (fin t m e) s S y l v w =
 
 -- a field of 0 has no leading digit, one of 2047 is of no finite number
 from_fields : (s : Bool) (f t : ℕ) → t < 2 ^ 52 → is_finite (of_fields binary64 s f t) ≡ true → within_turn (of_fields binary64 s f t) ≡ false → (1025 ≤ f) × Places (of_fields binary64 s f t) s (t + 2 ^ 52) (f - 1025)
-unfolding of_fields is_finite
+unfolding of_fields float_is_finite
 from_fields s zero t l g w =
     let none = from_value (odd 53 s t 0 1074) s t 0 (omega arith) (odd_sign 53 s t 0 1074) w in
     absurd (omega (arith, none.0))
@@ -245,7 +246,7 @@ pub rem_by_signed_bits : (x : Float) (b r : ℕ) → x ≡ of_bits binary64 b �
 rem_by_signed_bits x b r e f w h i = rem_minus x _ _ r (rw (a_sign h) at ((fields x b e f w).places)) i
 
 pub finite_number : (x : Float) → is_finite x ≡ true → T (not (is_nan x))
-unfolding is_finite is_nan
+unfolding float_is_finite is_nan
 finite_number nan f = absurd (cc)
 finite_number (inf s) f = tt
 finite_number (fin s m e) f = tt

@@ -1,15 +1,14 @@
 -- Finite numbers, vectors and blocks: what document 01 means by "finite" in its table of refusals.
-use Rattle.std.specs.Prelude.{◌≡◌, ◌⊎◌, ◌↔◌, Bool, true, false, not, ◌&&◌, ℕ, ℤ, T, Float}
-use Rattle.std.specs.Float.{nan, inf, fin, binary64}
+use Rattle.std.specs.Prelude.{◌≡◌, ◌⊎◌, ◌↔◌, Bool, not, ◌&&◌, ℕ, ℤ, T, Float}
+use Rattle.std.specs.Float.{nan, inf, fin, binary64, float_is_finite}
 use Rattle.std.specs.Float.Ieee.{of_bits, sub, eq}
 use Rattle.vectors.specs.declared.vec3.Vec3.{Vec3}
 use Rattle.vectors.specs.declared.vec4.Vec4.{Vec4}
 use Rattle.vectors.specs.declared.mat4.Mat4.{Mat4}
 
-unfoldable pub is_finite : Float → Bool
-is_finite nan = false
-is_finite (inf s) = false
-is_finite (fin s m e) = true
+-- neither NaN nor an infinity, as the library has it
+abbrev pub is_finite : Float → Bool
+is_finite = float_is_finite
 
 unfoldable pub vec3_is_finite : Vec3 → Bool
 vec3_is_finite v = is_finite v.x && is_finite v.y && is_finite v.z

@@ -5,8 +5,6 @@ ghost use Rattle.std.specs.Float.Ieee.{lt, neg, rem};
 ghost use Rattle.vectors.specs.Angle.{two_pi, reduced_of, series_of, sine_of, cosine_of};
 ghost use Rattle.vectors.specs.Finite.{is_finite};
 
-use crate::finite;
-
 const TWO_PI: f64 = 6.283185307179586;
 
 const PI: f64 = 3.141592653589793;
@@ -52,7 +50,7 @@ fn remainder(angle: f64) -> f64
     if is_within_turn(angle) {
         return angle;
     }
-    if !finite::is_finite(angle) {
+    if !angle.is_finite() {
         return 0.0 / 0.0;
     }
     let b = f64::to_bits(angle);
@@ -84,10 +82,8 @@ fn series(z: f64, divisors: &[f64]) -> f64
     ensures { result ≡ series_of z divisors.now }
 {
     let mut t = 1.0;
-    let mut k = divisors.len();
-    while 0 < k {
-        k -= 1;
-        t = 1.0 - z / divisors[k] * t;
+    for d in divisors.iter().rev() {
+        t = 1.0 - z / *d * t;
     }
     t
 }

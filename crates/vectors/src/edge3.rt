@@ -2,8 +2,8 @@
 ghost use Rattle.std.specs.Prelude.{◌≡◌};
 ghost use Rattle.vectors.specs.Edge.{acceptable, measured_of, edge_length};
 
+use crate::vec3;
 use crate::vec3::Vec3;
-use crate::{finite, vec3};
 
 // A length, and whether the squared length that it is the root of was finite and above 0.
 #[derive(Clone, Copy)]
@@ -17,7 +17,7 @@ pub struct EdgeLength {
 fn accepts(squared: f64) -> bool
     ensures { result ≡ acceptable squared }
 {
-    finite::is_finite(squared) & (0.0 < squared)
+    squared.is_finite() & (0.0 < squared)
 }
 
 // The length of the edge v.
@@ -37,7 +37,7 @@ pub fn measured(v: Vec3) -> EdgeLength
 pub fn length(p0: Vec3, p1: Vec3) -> EdgeLength
     ensures { result ≡ edge_length p0 p1 }
 {
-    measured(vec3::sub(p1, p0))
+    measured(p1 - p0)
 }
 
 // Whether the edge from p0 to p1 has a length to work with, which takes no root to tell.
@@ -45,6 +45,6 @@ pub fn length(p0: Vec3, p1: Vec3) -> EdgeLength
 pub fn is_acceptable(p0: Vec3, p1: Vec3) -> bool
     ensures { result ≡ (edge_length p0 p1).acceptable }
 {
-    let v = vec3::sub(p1, p0);
+    let v = p1 - p0;
     accepts(vec3::dot(v, v))
 }

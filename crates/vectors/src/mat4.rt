@@ -3,10 +3,10 @@ ghost use Rattle.std.specs.Prelude.{◌≡◌};
 ghost use Rattle.vectors.specs.Mat4.{mat4_add, mat4_from_mat3};
 
 use crate::mat3::Mat3;
-use crate::vec4;
 use crate::vec4::Vec4;
+use std::ops::Add;
 
-#[derive(Clone, Copy)]
+#[derive(Clone, Copy, Default)]
 pub struct Mat4 {
     pub c0: Vec4,
     pub c1: Vec4,
@@ -15,23 +15,19 @@ pub struct Mat4 {
 }
 
 // Every entry is added, zeros too.
-#[tactic(auto, unfolding(crate::specs::Mat4::mat4_add))]
-pub fn add(a: Mat4, b: Mat4) -> Mat4
-    ensures { result ≡ mat4_add a b }
-{
-    let a0 = a.c0;
-    let a1 = a.c1;
-    let a2 = a.c2;
-    let a3 = a.c3;
-    let b0 = b.c0;
-    let b1 = b.c1;
-    let b2 = b.c2;
-    let b3 = b.c3;
-    Mat4 {
-        c0: vec4::add(a0, b0),
-        c1: vec4::add(a1, b1),
-        c2: vec4::add(a2, b2),
-        c3: vec4::add(a3, b3),
+impl Add for Mat4 {
+    type Output = Mat4;
+
+    ghost add_gives = { λ a b r. r ≡ mat4_add a b };
+
+    #[tactic(auto, unfolding(crate::specs::Mat4::mat4_add))]
+    fn add(self, b: Mat4) -> Mat4 {
+        Mat4 {
+            c0: self.c0 + b.c0,
+            c1: self.c1 + b.c1,
+            c2: self.c2 + b.c2,
+            c3: self.c3 + b.c3,
+        }
     }
 }
 

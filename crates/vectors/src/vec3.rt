@@ -1,55 +1,62 @@
 // Vectors of three numbers.
 ghost use Rattle.std.specs.Prelude.{◌≡◌};
-ghost use Rattle.vectors.specs.Vec3.{vec3_add, vec3_sub, vec3_scale, vec3_add_three, vec3_dot, vec3_norm, vec3_normalize, vec3_cross, vec3_orthogonalize};
+ghost use Rattle.vectors.specs.Vec3.{vec3_add, vec3_sub, vec3_scale, vec3_dot, vec3_norm, vec3_normalize, vec3_cross, vec3_orthogonalize};
 ghost use Rattle.vectors.specs.Mat3.{vec3_times_mat3};
 
 use crate::mat3::Mat3;
+use crate::sum;
+use std::ops::{Add, Mul, Sub};
 
-#[derive(Clone, Copy)]
+#[derive(Clone, Copy, Default)]
 pub struct Vec3 {
     pub x: f64,
     pub y: f64,
     pub z: f64,
 }
 
-#[tactic(auto, unfolding(crate::specs::Vec3::vec3_add))]
-pub fn add(a: Vec3, b: Vec3) -> Vec3
-    ensures { result ≡ vec3_add a b }
-{
-    Vec3 {
-        x: a.x + b.x,
-        y: a.y + b.y,
-        z: a.z + b.z,
+impl Add for Vec3 {
+    type Output = Vec3;
+
+    ghost add_gives = { λ a b r. r ≡ vec3_add a b };
+
+    #[tactic(auto, unfolding(crate::specs::Vec3::vec3_add))]
+    fn add(self, b: Vec3) -> Vec3 {
+        Vec3 {
+            x: self.x + b.x,
+            y: self.y + b.y,
+            z: self.z + b.z,
+        }
     }
 }
 
-#[tactic(auto, unfolding(crate::specs::Vec3::vec3_sub))]
-pub fn sub(a: Vec3, b: Vec3) -> Vec3
-    ensures { result ≡ vec3_sub a b }
-{
-    Vec3 {
-        x: a.x - b.x,
-        y: a.y - b.y,
-        z: a.z - b.z,
+impl Sub for Vec3 {
+    type Output = Vec3;
+
+    ghost sub_gives = { λ a b r. r ≡ vec3_sub a b };
+
+    #[tactic(auto, unfolding(crate::specs::Vec3::vec3_sub))]
+    fn sub(self, b: Vec3) -> Vec3 {
+        Vec3 {
+            x: self.x - b.x,
+            y: self.y - b.y,
+            z: self.z - b.z,
+        }
     }
 }
 
-#[tactic(auto, unfolding(crate::specs::Vec3::vec3_scale))]
-pub fn scale(a: Vec3, s: f64) -> Vec3
-    ensures { result ≡ vec3_scale a s }
-{
-    Vec3 {
-        x: s * a.x,
-        y: s * a.y,
-        z: s * a.z,
-    }
-}
+impl Mul<f64> for Vec3 {
+    type Output = Vec3;
 
-#[tactic(auto, unfolding(crate::specs::Vec3::vec3_add_three))]
-pub fn add_three(a: Vec3, b: Vec3, c: Vec3) -> Vec3
-    ensures { result ≡ vec3_add_three a b c }
-{
-    add(add(a, b), c)
+    ghost mul_gives = { λ a s r. r ≡ vec3_scale a s };
+
+    #[tactic(auto, unfolding(crate::specs::Vec3::vec3_scale))]
+    fn mul(self, s: f64) -> Vec3 {
+        Vec3 {
+            x: s * self.x,
+            y: s * self.y,
+            z: s * self.z,
+        }
+    }
 }
 
 #[tactic(auto, unfolding(crate::specs::Vec3::vec3_dot))]
@@ -70,7 +77,7 @@ pub fn norm(v: Vec3) -> f64
 pub fn normalize(v: Vec3) -> Vec3
     ensures { result ≡ vec3_normalize v }
 {
-    scale(v, 1.0 / norm(v))
+    v * (1.0 / norm(v))
 }
 
 #[tactic(auto, unfolding(crate::specs::Vec3::vec3_cross))]
@@ -90,16 +97,13 @@ pub fn orthogonalize(v: Vec3, f: Vec3) -> Vec3
     ensures { result ≡ vec3_orthogonalize v f }
 {
     let t = dot(v, f) / dot(v, v);
-    sub(f, scale(v, t))
+    f - v * t
 }
 
 // The row vector q times the block a.
-#[tactic(auto, unfolding(crate::specs::Mat3::vec3_times_mat3))]
+#[tactic(auto, unfolding(crate::specs::Mat3::vec3_times_mat3, crate::specs::Vec3::vec3_add_three))]
 pub fn mult_mat3_array_of_array(q: Vec3, a: Mat3) -> Vec3
     ensures { result ≡ vec3_times_mat3 q a }
 {
-    let r0 = a.r0;
-    let r1 = a.r1;
-    let r2 = a.r2;
-    add_three(scale(r0, q.x), scale(r1, q.y), scale(r2, q.z))
+    sum::add_three(a.r0 * q.x, a.r1 * q.y, a.r2 * q.z)
 }

@@ -3,8 +3,9 @@ ghost use Rattle.std.specs.Prelude.{◌≡◌};
 ghost use Rattle.vectors.specs.Vec4.{vec4_add, vec4_scale, vec4_dot, vec4_from_vec3};
 
 use crate::vec3::Vec3;
+use std::ops::{Add, Mul};
 
-#[derive(Clone, Copy)]
+#[derive(Clone, Copy, Default)]
 pub struct Vec4 {
     pub x: f64,
     pub y: f64,
@@ -12,27 +13,35 @@ pub struct Vec4 {
     pub w: f64,
 }
 
-#[tactic(auto, unfolding(crate::specs::Vec4::vec4_add))]
-pub fn add(a: Vec4, b: Vec4) -> Vec4
-    ensures { result ≡ vec4_add a b }
-{
-    Vec4 {
-        x: a.x + b.x,
-        y: a.y + b.y,
-        z: a.z + b.z,
-        w: a.w + b.w,
+impl Add for Vec4 {
+    type Output = Vec4;
+
+    ghost add_gives = { λ a b r. r ≡ vec4_add a b };
+
+    #[tactic(auto, unfolding(crate::specs::Vec4::vec4_add))]
+    fn add(self, b: Vec4) -> Vec4 {
+        Vec4 {
+            x: self.x + b.x,
+            y: self.y + b.y,
+            z: self.z + b.z,
+            w: self.w + b.w,
+        }
     }
 }
 
-#[tactic(auto, unfolding(crate::specs::Vec4::vec4_scale))]
-pub fn scale(a: Vec4, s: f64) -> Vec4
-    ensures { result ≡ vec4_scale a s }
-{
-    Vec4 {
-        x: s * a.x,
-        y: s * a.y,
-        z: s * a.z,
-        w: s * a.w,
+impl Mul<f64> for Vec4 {
+    type Output = Vec4;
+
+    ghost mul_gives = { λ a s r. r ≡ vec4_scale a s };
+
+    #[tactic(auto, unfolding(crate::specs::Vec4::vec4_scale))]
+    fn mul(self, s: f64) -> Vec4 {
+        Vec4 {
+            x: s * self.x,
+            y: s * self.y,
+            z: s * self.z,
+            w: s * self.w,
+        }
     }
 }
 

@@ -1,18 +1,18 @@
--- One more divisor, and all of them at the end.
-use Rattle.std.proofs.Common.{◌-◌, arith}
+-- From the last divisor to the first: each one goes before those that the series has.
+use Rattle.std.proofs.Common.{rules, []}
+use Rattle.std.proofs.lemmas.List.{append-nil}
 use Rattle.vectors.proofs.Series.{none, more, all}
 use Rattle.vectors.proofs.angle.series.Goals as goal
 
-pub loop-k-init : goal.loop-k-init
-loop-k-init c = record { within = omega arith; series = none c.args.z c.args.divisors.now }
+pub loop-d-init : goal.loop-d-init
+loop-d-init c = ([], search (rules, append-nil), none c.args.z)
 
-pub loop-k-preserved : goal.loop-k-preserved
-loop-k-preserved c =
-    let i = c.loop-k.invariant in
-    record {
-      within = omega arith;
-      series = more _ _ c.args.divisors.now c.loop-k.k (c.loop-k.k - 1) (omega arith) i.within i.series;
-    }
+pub loop-d-preserved : goal.loop-d-preserved
+loop-d-preserved c =
+    let i = c.loop-d.invariant in
+    more c.args.z _ c.in-Some.d.now _ _ _ i.0 i.1 c.in-Some.ensures.steps i.2
 
 pub returns : goal.returns
-returns c = all _ _ c.args.divisors.now c.loop-k.k (omega arith) c.loop-k.invariant.series
+returns c =
+    let i = c.loop-d.invariant in
+    all c.args.z _ _ _ i.0 c.in-None.ensures.steps.0 i.1 i.2

@@ -1,10 +1,8 @@
--- t is the series of the divisors from k on.
-use Rattle.std.proofs.Common.{◌≡◌, ◌≤◌, length, drop}
+-- The divisors are those to come, and then those whose series t is.
+use Rattle.std.proofs.Common.{◌≡◌, List, ◌++◌}
+use lib.Ieee.{Float}
 use Rattle.vectors.specs.Angle.{series_of}
 use Rattle.vectors.proofs.angle.series.Given as goal
 
-abbrev pub invariant-loop-k : goal.invariant-loop-k
-invariant-loop-k l = record { within : l.k ≤ length l.divisors; series : l.t ≡ series_of l.z (drop l.k l.divisors) }
-
-abbrev pub decreases-loop-k : goal.decreases-loop-k
-decreases-loop-k l = l.k
+abbrev pub invariant-loop-d : goal.invariant-loop-d
+invariant-loop-d l = (p : List Float) × (l.divisors ≡ l.d-iterator.iter.rest.now ++ p) × (l.t ≡ series_of l.z p)
