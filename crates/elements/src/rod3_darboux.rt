@@ -50,7 +50,7 @@ pub struct FrameGradient {
 }
 
 // The derivative of a number by the three vertices and the two twists.
-#[derive(Clone, Copy)]
+#[derive(Clone, Copy, Default)]
 pub struct Gradient {
     pub p0: Vec3,
     pub p1: Vec3,
@@ -80,20 +80,22 @@ pub struct DarbouxGradient {
 pub fn edge_frame_of_length(p0: Vec3, p1: Vec3, x: Vec3, len: f64) -> EdgeFrame
     ensures { result ≡ edge_frame_of_length p0 p1 x len }
 {
-    let z = vec3::sub(p1, p0);
-    let uz = vec3::scale(z, 1.0 / len);
-    let frame = RodFrame {
-        x,
-        y: vec3::cross(uz, x),
-        z: uz,
-    };
-    EdgeFrame { frame, length: len }
+    let z = (p1 - p0) * (1.0 / len);
+    EdgeFrame {
+        frame: RodFrame {
+            x,
+            y: vec3::cross(z, x),
+            z,
+        },
+        length: len,
+    }
 }
 
+#[tactic(auto, unfolding(crate::specs::Darboux::edge_frame, crate::specs::Darboux::edge_frame_of_length, vectors::specs::Vec3::vec3_normalize))]
 fn edge_frame(p0: Vec3, p1: Vec3, x: Vec3) -> EdgeFrame
     ensures { result ≡ edge_frame p0 p1 x }
 {
-    edge_frame_of_length(p0, p1, x, vec3::norm(vec3::sub(p1, p0)))
+    edge_frame_of_length(p0, p1, x, vec3::norm(p1 - p0))
 }
 
 #[tactic(auto, unfolding(crate::specs::Darboux::rod_frame_gradient))]
@@ -101,32 +103,23 @@ pub fn rod_frame_gradient(len: f64, frame: RodFrame) -> FrameGradient
     ensures { result ≡ rod_frame_gradient len frame }
 {
     let leninv = 1.0 / len;
-    let x = frame.x;
-    let y = frame.y;
-    let z = frame.z;
-    let ax = FrameAxis {
-        axis: x,
-        dv: mat3::from_scaled_outer_product(-leninv, z, x),
-        dt: y,
-    };
-    let ay = FrameAxis {
-        axis: y,
-        dv: mat3::from_scaled_outer_product(-leninv, z, y),
-        dt: vec3::scale(x, -1.0),
-    };
-    let az = FrameAxis {
-        axis: z,
-        dv: mat3::scale(mat3::from_projection_onto_plane(z), leninv),
-        dt: Vec3 {
-            x: 0.0,
-            y: 0.0,
-            z: 0.0,
-        },
-    };
+    let RodFrame { x, y, z } = frame;
     FrameGradient {
-        x: ax,
-        y: ay,
-        z: az,
+        x: FrameAxis {
+            axis: x,
+            dv: mat3::from_scaled_outer_product(-leninv, z, x),
+            dt: y,
+        },
+        y: FrameAxis {
+            axis: y,
+            dv: mat3::from_scaled_outer_product(-leninv, z, y),
+            dt: x * -1.0,
+        },
+        z: FrameAxis {
+            axis: z,
+            dv: mat3::from_projection_onto_plane(z) * leninv,
+            dt: Vec3::default(),
+        },
     }
 }
 
@@ -134,18 +127,7 @@ pub fn rod_frame_gradient(len: f64, frame: RodFrame) -> FrameGradient
 fn no_gradient() -> Gradient
     ensures { result ≡ no_gradient }
 {
-    let zero = Vec3 {
-        x: 0.0,
-        y: 0.0,
-        z: 0.0,
-    };
-    Gradient {
-        p0: zero,
-        p1: zero,
-        p2: zero,
-        t0: 0.0,
-        t1: 0.0,
-    }
+    Gradient::default()
 }
 
 // g with c times the gradient of dot(a, b) added, a an axis of the first edge's frame and b one of
@@ -154,23 +136,14 @@ fn no_gradient() -> Gradient
 pub fn add_gradient_of_dot_frame_axis(g: Gradient, c: f64, a: FrameAxis, b: FrameAxis) -> Gradient
     ensures { result ≡ add_gradient_of_dot_frame_axis g c a b }
 {
-    let g0 = g.p0;
-    let g1 = g.p1;
-    let g2 = g.p2;
-    let fa = a.axis;
-    let fb = b.axis;
-    let dva = a.dv;
-    let dvb = b.dv;
-    let dta = a.dt;
-    let dtb = b.dt;
-    let s = vec3::scale(vec3::mult_mat3_array_of_array(fb, dva), c);
-    let t = vec3::scale(vec3::mult_mat3_array_of_array(fa, dvb), c);
+    let s = vec3::mult_mat3_array_of_array(b.axis, a.dv) * c;
+    let t = vec3::mult_mat3_array_of_array(a.axis, b.dv) * c;
     Gradient {
-        p0: vec3::sub(g0, s),
-        p1: vec3::sub(vec3::add(g1, s), t),
-        p2: vec3::add(g2, t),
-        t0: g.t0 + c * vec3::dot(fb, dta),
-        t1: g.t1 + c * vec3::dot(fa, dtb),
+        p0: g.p0 - s,
+        p1: g.p1 + s - t,
+        p2: g.p2 + t,
+        t0: g.t0 + c * vec3::dot(b.axis, a.dt),
+        t1: g.t1 + c * vec3::dot(a.axis, b.dt),
     }
 }
 
@@ -179,28 +152,16 @@ pub fn add_gradient_of_dot_frame_axis(g: Gradient, c: f64, a: FrameAxis, b: Fram
 fn darboux_denominator(a: RodFrame, b: RodFrame) -> f64
     ensures { result ≡ darboux_denominator a b }
 {
-    let ax = a.x;
-    let ay = a.y;
-    let az = a.z;
-    let bx = b.x;
-    let by = b.y;
-    let bz = b.z;
-    1.0 + vec3::dot(ax, bx) + vec3::dot(ay, by) + vec3::dot(az, bz)
+    1.0 + vec3::dot(a.x, b.x) + vec3::dot(a.y, b.y) + vec3::dot(a.z, b.z)
 }
 
 #[tactic(auto, unfolding(crate::specs::Darboux::denominator_gradient))]
 fn denominator_gradient(a: FrameGradient, b: FrameGradient) -> Gradient
     ensures { result ≡ denominator_gradient a b }
 {
-    let ax = a.x;
-    let ay = a.y;
-    let az = a.z;
-    let bx = b.x;
-    let by = b.y;
-    let bz = b.z;
-    let g0 = add_gradient_of_dot_frame_axis(no_gradient(), 1.0, ax, bx);
-    let g1 = add_gradient_of_dot_frame_axis(g0, 1.0, ay, by);
-    add_gradient_of_dot_frame_axis(g1, 1.0, az, bz)
+    let g0 = add_gradient_of_dot_frame_axis(no_gradient(), 1.0, a.x, b.x);
+    let g1 = add_gradient_of_dot_frame_axis(g0, 1.0, a.y, b.y);
+    add_gradient_of_dot_frame_axis(g1, 1.0, a.z, b.z)
 }
 
 // The Darboux vector of two neighbouring edges by their frames.
@@ -208,20 +169,11 @@ fn denominator_gradient(a: FrameGradient, b: FrameGradient) -> Gradient
 pub fn darboux(a: RodFrame, b: RodFrame) -> Vec3
     ensures { result ≡ darboux_of a b }
 {
-    let ax = a.x;
-    let ay = a.y;
-    let az = a.z;
-    let bx = b.x;
-    let by = b.y;
-    let bz = b.z;
     let s = darboux_denominator(a, b);
-    let u0 = vec3::dot(ay, bz) - vec3::dot(az, by);
-    let u1 = vec3::dot(az, bx) - vec3::dot(ax, bz);
-    let u2 = vec3::dot(ax, by) - vec3::dot(ay, bx);
     Vec3 {
-        x: u0 / s,
-        y: u1 / s,
-        z: u2 / s,
+        x: (vec3::dot(a.y, b.z) - vec3::dot(a.z, b.y)) / s,
+        y: (vec3::dot(a.z, b.x) - vec3::dot(a.x, b.z)) / s,
+        z: (vec3::dot(a.x, b.y) - vec3::dot(a.y, b.x)) / s,
     }
 }
 
@@ -229,16 +181,9 @@ pub fn darboux(a: RodFrame, b: RodFrame) -> Vec3
 pub fn darboux_rod(rod: Rod) -> Vec3
     ensures { result ≡ darboux_rod rod }
 {
-    let p0 = rod.p0;
-    let p1 = rod.p1;
-    let p2 = rod.p2;
-    let x0 = rod.x0;
-    let x1 = rod.x1;
-    let ea = edge_frame(p0, p1, x0);
-    let eb = edge_frame(p1, p2, x1);
-    let a = ea.frame;
-    let b = eb.frame;
-    darboux(a, b)
+    let a = edge_frame(rod.p0, rod.p1, rod.x0);
+    let b = edge_frame(rod.p1, rod.p2, rod.x1);
+    darboux(a.frame, b.frame)
 }
 
 // t0 times one gradient and t1 times another.
@@ -246,16 +191,10 @@ pub fn darboux_rod(rod: Rod) -> Vec3
 fn combined(a: Gradient, t0: f64, b: Gradient, t1: f64) -> Gradient
     ensures { result ≡ combined_gradient a t0 b t1 }
 {
-    let a0 = a.p0;
-    let a1 = a.p1;
-    let a2 = a.p2;
-    let b0 = b.p0;
-    let b1 = b.p1;
-    let b2 = b.p2;
     Gradient {
-        p0: vec3::add(vec3::scale(a0, t0), vec3::scale(b0, t1)),
-        p1: vec3::add(vec3::scale(a1, t0), vec3::scale(b1, t1)),
-        p2: vec3::add(vec3::scale(a2, t0), vec3::scale(b2, t1)),
+        p0: a.p0 * t0 + b.p0 * t1,
+        p1: a.p1 * t0 + b.p1 * t1,
+        p2: a.p2 * t0 + b.p2 * t1,
         t0: a.t0 * t0 + b.t0 * t1,
         t1: a.t1 * t0 + b.t1 * t1,
     }
@@ -274,11 +213,7 @@ fn darboux_axis(
 ) -> DarbouxAxis
     ensures { result ≡ darboux_axis s ds aj ak bj bk }
 {
-    let faj = aj.axis;
-    let fak = ak.axis;
-    let fbj = bj.axis;
-    let fbk = bk.axis;
-    let u = vec3::dot(faj, fbk) - vec3::dot(fak, fbj);
+    let u = vec3::dot(aj.axis, bk.axis) - vec3::dot(ak.axis, bj.axis);
     let du0 = add_gradient_of_dot_frame_axis(no_gradient(), 1.0, aj, bk);
     let du = add_gradient_of_dot_frame_axis(du0, -1.0, ak, bj);
     DarbouxAxis {
@@ -292,32 +227,21 @@ fn darboux_axis(
 pub fn cdc_rod_darboux(ea: EdgeFrame, eb: EdgeFrame) -> DarbouxGradient
     ensures { result ≡ cdc_of ea eb }
 {
-    let fa = ea.frame;
-    let fb = eb.frame;
-    let a = rod_frame_gradient(ea.length, fa);
-    let b = rod_frame_gradient(eb.length, fb);
-    let s = darboux_denominator(fa, fb);
+    let a = rod_frame_gradient(ea.length, ea.frame);
+    let b = rod_frame_gradient(eb.length, eb.frame);
+    let s = darboux_denominator(ea.frame, eb.frame);
     let ds = denominator_gradient(a, b);
-    let ax = a.x;
-    let ay = a.y;
-    let az = a.z;
-    let bx = b.x;
-    let by = b.y;
-    let bz = b.z;
-    let r0 = darboux_axis(s, ds, ay, az, by, bz);
-    let r1 = darboux_axis(s, ds, az, ax, bz, bx);
-    let r2 = darboux_axis(s, ds, ax, ay, bx, by);
-    let d0 = r0.d;
-    let d1 = r1.d;
-    let d2 = r2.d;
+    let r0 = darboux_axis(s, ds, a.y, a.z, b.y, b.z);
+    let r1 = darboux_axis(s, ds, a.z, a.x, b.z, b.x);
+    let r2 = darboux_axis(s, ds, a.x, a.y, b.x, b.y);
     DarbouxGradient {
         c: Vec3 {
             x: r0.c,
             y: r1.c,
             z: r2.c,
         },
-        d0,
-        d1,
-        d2,
+        d0: r0.d,
+        d1: r1.d,
+        d2: r2.d,
     }
 }

@@ -25,8 +25,7 @@ fn stretch_block(stiffness: f64, v: Vec3, l: f64, edge_length_ini: f64) -> Mat3
     let mvv = mat3::from_scaled_outer_product(1.0, v, v);
     let t0 = stiffness * edge_length_ini / (l * l * l);
     let t1 = stiffness * (l - edge_length_ini) / l;
-    let t2 = mat3::scale(mat3::from_identity(), t1);
-    mat3::add(mat3::scale(mvv, t0), t2)
+    mvv * t0 + mat3::from_identity() * t1
 }
 
 // The stretch of an edge by a length l that is given: its own, where that is known.
@@ -40,18 +39,19 @@ pub fn stretch_of_length(
 ) -> Stretch
     ensures { result ≡ stretch_of_length stiffness p0 p1 l edge_length_ini }
 {
-    let v = vec3::sub(p0, p1);
+    let v = p0 - p1;
     let c = edge_length_ini - l;
     let m = stretch_block(stiffness, v, l, edge_length_ini);
     Stretch {
         w: 0.5 * stiffness * c * c,
-        dw0: vec3::scale(v, -c * stiffness / l),
-        dw1: vec3::scale(v, c * stiffness / l),
+        dw0: v * (-c * stiffness / l),
+        dw1: v * (c * stiffness / l),
         same: m,
-        other: mat3::scale(m, -1.0),
+        other: m * -1.0,
     }
 }
 
+#[tactic(auto, unfolding(crate::specs::Spring3::wdwddw_squared_length_difference))]
 pub fn wdwddw_squared_length_difference(
     stiffness: f64,
     p0: Vec3,
@@ -60,6 +60,6 @@ pub fn wdwddw_squared_length_difference(
 ) -> Stretch
     ensures { result ≡ wdwddw_squared_length_difference stiffness p0 p1 edge_length_ini }
 {
-    let l = vec3::norm(vec3::sub(p0, p1));
+    let l = vec3::norm(p0 - p1);
     stretch_of_length(stiffness, p0, p1, l, edge_length_ini)
 }

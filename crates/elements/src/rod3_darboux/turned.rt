@@ -20,11 +20,9 @@ pub fn updated_rod_frame(ux0: Vec3, z0: Vec3, dz: Vec3, dtheta: f64) -> TurnedFr
     ensures { result ≡ updated_rod_frame ux0 z0 dz dtheta }
 {
     let uz0 = vec3::normalize(z0);
-    let uz2 = vec3::normalize(vec3::add(z0, dz));
+    let uz2 = vec3::normalize(z0 + dz);
     let uy0 = vec3::cross(uz0, ux0);
-    let c = angle::cosine(dtheta);
-    let s = angle::sine(dtheta);
-    let ux1 = vec3::add(vec3::scale(ux0, c), vec3::scale(uy0, s));
+    let ux1 = ux0 * angle::cosine(dtheta) + uy0 * angle::sine(dtheta);
     TurnedFrame {
         x: rotation::rotated(uz0, uz2, ux1),
         one_plus_cosine: 1.0 + vec3::dot(uz0, uz2),
