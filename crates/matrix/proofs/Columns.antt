@@ -6,7 +6,7 @@ use native.Mathlib.Omega.{arith}
 use borrow.Author.Tests.{lt-ltb, le-ltb}
 use Rattle.matrix.specs.Layout.{before, after, row_length, row_start, column_at, column_place, block_place, Near}
 use Rattle.matrix.proofs.Cases.{by_order}
-use Rattle.matrix.proofs.RowPlaces.{before_one, before_two, before_le, after_le, row_within, all_blocks}
+use Rattle.matrix.proofs.RowPlaces.{before_one, before_two, before_le, after_le, row_within, row_fits, all_blocks}
 
 -- ---- a column by its place, and a place by its column
 module _ (n i c : ℕ) where
@@ -42,6 +42,9 @@ reaches_back i j h k = by_order i 2 (λ b. omega (arith, before_one i b)) (λ b.
 pub reaches_on : (n i j : ℕ) → i < j → j < n → j ≤ i + 2 → j ≤ i + after n i
 unfolding after
 reaches_on n i j h b k = by_order (n - suc i) 2 (λ d. omega (arith, before_one (n - suc i) d)) (λ d. omega (arith, before_two (n - suc i) d))
+
+-- what a search for a block's place needs
+pub ruleset row_places = (before_le, after_le, row_fits, reaches_back, place_before, place_after, place_own)
 
 module _ {n i j : ℕ} (near : Near n i j) where
   pub place_within : column_place n i j < row_length n i
@@ -92,6 +95,9 @@ place_in_use {n} {i} {j} near a = omega (arith, place_within near, row_within n 
 
 pub place_fits : {n i j : ℕ} → Near n i j → 2 ≤ n → n ≤ 32 → block_place n i j < 154
 place_fits near a b = omega (arith, place_in_use near a)
+
+pub own_place_fits : (n i : ℕ) → i < n → 2 ≤ n → n ≤ 32 → block_place n i i < 154
+own_place_fits n i h a b = place_fits (record { row = h; column = h; low = omega arith; high = omega arith }) a b
 
 apart_rows : {n p q : ℕ} → Near n p q → (i j : ℕ) → p < i → block_place n p q < block_place n i j
 unfolding block_place

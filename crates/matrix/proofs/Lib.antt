@@ -2,6 +2,7 @@
 pub mod Parts
 pub mod Widths
 pub mod RowWidths
+pub mod RowArrays
 pub mod RowLaws
 pub mod RowPlaces
 pub mod Cases

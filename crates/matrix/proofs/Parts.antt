@@ -1,12 +1,12 @@
 -- Laws of tables, parts and stores, for any element type.
 -- Two lists of one length are equal where their elements are, so each law is one of elements: inside what was stored they are the stored ones, outside they are the old ones.
 use mathlib.Core.Path.{◌≡◌, refl, sym, ap, ◌∙◌}
-use mathlib.Core.List.{List, [], ◌∷◌, ◌++◌}
+use mathlib.Core.List.{List, [], ◌∷◌, ◌++◌, append_assoc}
 use Prim.Native.Nat.{ℕ, zero, suc, ◌+◌, ◌≤◌, ◌<◌, suc-le-suc}
 use native.Mathlib.Nat.{not-suc-le-zero, le_of_suc-le-suc}
 use native.Mathlib.Omega.{arith}
-use lib.ListN.{length, get_or, set, replicate, length-take, length-drop, drop}
-use lib.Seq.{get_or-take, get_or-drop, ext_get_or}
+use lib.ListN.{length, get_or, set, replicate, length-take, length-drop, take, drop}
+use lib.Seq.{paste, get_or-take, get_or-drop, ext_get_or}
 use Rattle.matrix.specs.Parts.{Apart, part, put, table}
 
 module _ {ℓ} {A : Type ℓ} where
@@ -77,6 +77,20 @@ module _ {ℓ} {A : Type ℓ} where
   put_none [] o = refl
   put_none (a ∷ w) (suc o) = ap (λ (l : List A). a ∷ l) (put_none w o)
   put_none (a ∷ w) zero = refl
+
+  -- as the library says it of its slices
+  put_cut : (w : List A) (o k : ℕ) (p : List A) → k ≡ o + length p → k ≤ length w → put w o p ≡ take o w ++ (p ++ drop k w)
+  unfolding put
+  put_cut w zero k [] e h = let z : k ≡ 0 = omega arith in rw z (put_none w 0)
+  put_cut [] zero k (b ∷ p) e h = absurd (omega arith)
+  put_cut [] (suc o) k p e h = absurd (omega arith)
+  put_cut (a ∷ w) zero zero (b ∷ p) e h = absurd (omega arith)
+  put_cut (a ∷ w) zero (suc k) (b ∷ p) e h = ap (λ (l : List A). b ∷ l) (put_cut w zero k p (omega arith) (omega arith))
+  put_cut (a ∷ w) (suc o) zero p e h = absurd (omega arith)
+  put_cut (a ∷ w) (suc o) (suc k) p e h = ap (λ (l : List A). a ∷ l) (put_cut w o k p (omega arith) (omega arith))
+
+  pub paste_put : (w : List A) (o n : ℕ) (s p : List A) → take n s ≡ p → length p ≡ n → o + n ≤ length w → paste w o s n ≡ put w o p
+  paste_put w o n s p e l h = rw e (append_assoc (take o w) p (drop (o + n) w)) ∙ sym (put_cut w o (o + n) p (omega arith) h)
 
   put_one : (w : List A) (o : ℕ) (a : A) → set w o a ≡ put w o (a ∷ [])
   unfolding put

@@ -1,130 +1,88 @@
 -- Products of blocks and rows: a sum of up to two, and a row of the matrix in terms of where its blocks and the vector's rows stand.
-use mathlib.Core.Path.{◌≡◌, refl, sym, ap, ◌∙◌}
-use mathlib.Core.List.{List, []}
+use mathlib.Core.Path.{◌≡◌, refl}
+use mathlib.Core.List.{List, [], ◌∷◌}
 use Prim.Native.Nat.{ℕ, ◌+◌, ◌-◌, ◌*◌, ◌≤◌, ◌<◌}
-use native.Mathlib.Nat.{add_assoc}
 use native.Mathlib.Omega.{arith}
-use lib.ListN.{get_or, take, drop}
-use lib.Ieee.{Float, nan}
+use lib.ListN.{length, get_or, take, drop}
+use lib.Ieee.{Float}
+use Rattle.std.specs.Simd.{first_chunks}
+use Rattle.std.proofs.lemmas.List.{get_or-map}
 use Rattle.vectors.specs.Number.{plus_zero, plus_one}
 use Rattle.vectors.specs.Vec4.{vec4_add, vec4_scale}
-use Rattle.vectors.specs.Mat4.{mat4, mat4_times_vec4}
+use Rattle.vectors.specs.Mat4.{mat4_times_vec4}
 use Rattle.vectors.specs.declared.vec4.Vec4.{Vec4}
-use Rattle.vectors.specs.declared.mat4.Mat4.{Mat4}
 use Rattle.matrix.specs.Parts.{part, table}
-use Rattle.matrix.specs.Rows.{zero_row, zero_block, row4, rows4, block16, blocks16}
+use Rattle.matrix.specs.Rows.{zero_row, zero_block, row4, rows4, cut_rows, block16, blocks16, cut_blocks}
 use Rattle.matrix.specs.Layout.{before, after, row_length, row_start}
 use Rattle.matrix.specs.SparseSquare.{add_products, row_times, matrix_rows, mult_vec}
-use Rattle.matrix.proofs.Parts.{table_ext, get_or_table, get_or_part, part_table}
+use Rattle.matrix.proofs.Parts.{table_ext, get_or_table}
 use Rattle.matrix.proofs.Widths.{row_of, rows_unstored_as}
 use Rattle.matrix.proofs.RowWidths.{four}
 use Rattle.matrix.proofs.RowLaws.{Stored, unstored}
+use Rattle.matrix.proofs.RowArrays.{rows_lent, blocks_lent, part_map}
 use Rattle.matrix.proofs.RowPlaces.{before_le, after_le}
 use Rattle.matrix.proofs.FromFirst.{row_begun}
 
--- none, one or two products, by where their blocks and rows stand
-module _ (alpha : Float) (m x : List Float) (a b n : ℕ) (s : Vec4) where
-  -- s and alpha times the product of the block at i and the row at j
-  abbrev plus_product : ℕ → ℕ → Vec4 → Vec4
-  plus_product i j s = vec4_add s (vec4_scale (mat4_times_vec4 (block16 m i) (row4 x j)) alpha)
+-- none, one or two products
+abbrev plus_product : Float → List Float → List Float → Vec4 → Vec4
+plus_product alpha b x s = vec4_add s (vec4_scale (mat4_times_vec4 (block16 b 0) (row4 x 0)) alpha)
 
-  first : plus_product a b s ≡ plus_product (a + 0) (b + 0) s
-  first = ap (λ (k : ℕ). plus_product k b s) (omega arith) ∙ ap (λ (k : ℕ). plus_product (a + 0) k s) (omega arith)
+pub no_products : (alpha : Float) (s : Vec4) (bs xs : List (List Float)) → length bs < 1 → s ≡ add_products alpha s (cut_blocks bs) (cut_rows xs)
+unfolding add_products
+no_products alpha s [] xs h = refl
+no_products alpha s (b ∷ bs) xs h = absurd (omega arith)
 
-  pub no_products : n ≡ 0 → s ≡ add_products alpha s (blocks16 m a n) (rows4 x b n)
-  unfolding add_products blocks16 rows4 table
-  no_products e = rw e refl
+pub one_product : (alpha : Float) (s : Vec4) (bs xs : List (List Float)) {r : Vec4} → length bs ≡ 1 → length xs ≡ 1 → r ≡ plus_product alpha (get_or bs 0 []) (get_or xs 0 []) s → r ≡ add_products alpha s (cut_blocks bs) (cut_rows xs)
+unfolding add_products
+one_product alpha s (b ∷ []) (x ∷ []) e f h = h
+one_product alpha s bs xs e f h = absurd (omega arith)
 
-  pub one_product : {r : Vec4} → n ≡ 1 → r ≡ plus_product a b s → r ≡ add_products alpha s (blocks16 m a n) (rows4 x b n)
-  unfolding add_products blocks16 rows4 table
-  one_product e h = rw e (h ∙ first)
+pub two_products : (alpha : Float) (s : Vec4) (bs xs : List (List Float)) {t r : Vec4} → length bs ≡ 2 → length xs ≡ 2 → t ≡ plus_product alpha (get_or bs 0 []) (get_or xs 0 []) s → r ≡ plus_product alpha (get_or bs 1 []) (get_or xs 1 []) t
+    → r ≡ add_products alpha s (cut_blocks bs) (cut_rows xs)
+unfolding add_products
+two_products alpha s (b ∷ c ∷ []) (x ∷ y ∷ []) e f h k = rw h at k
+two_products alpha s bs xs e f h k = absurd (omega arith)
 
-  pub two_products : {r t : Vec4} → n ≡ 2 → t ≡ plus_product a b s → r ≡ plus_product (a + 16) (b + 4) t → r ≡ add_products alpha s (blocks16 m a n) (rows4 x b n)
-  unfolding add_products blocks16 rows4 table
-  two_products e h k = rw e (k ∙ ap (plus_product (a + 16) (b + 4)) (h ∙ first))
-
--- parts of blocks and of rows
-part_blocks : (d : Mat4) (l : List Float) (a k o m b : ℕ) → o + m ≤ k → b ≡ a + 16 * o → part (blocks16 l a k) o m ≡ blocks16 l b m
-unfolding blocks16
-part_blocks d l a k o m b h e = part_table d k _ o m h ∙ table_ext m _ _ (λ i c. ap (block16 l) (omega arith))
-
-part_rows : (d : Vec4) (l : List Float) (a k o m b : ℕ) → o + m ≤ k → b ≡ a + 4 * o → part (rows4 l a k) o m ≡ rows4 l b m
-unfolding rows4
-part_rows d l a k o m b h e = part_table d k _ o m h ∙ table_ext m _ _ (λ i c. ap (row4 l) (omega arith))
-
-block_at : (d : Mat4) (l : List Float) (a k o b : ℕ) → o < k → b ≡ a + 16 * o → get_or (blocks16 l a k) o d ≡ block16 l b
-unfolding blocks16
-block_at d l a k o b h e = get_or_table k _ o d h ∙ ap (block16 l) (sym e)
-
+-- ---- a row of rows
 pub row_at_lem : (d : Vec4) (l : List Float) (a k o b : ℕ) → o < k → b ≡ a + 4 * o → get_or (rows4 l a k) o d ≡ row4 l b
 row_at_lem = row_of four
 
--- what `row_product` works out
-module _ (n i : ℕ) (row x : List Float) (old : Vec4) (h : i < n) where
+-- ---- what `row_product` works out
+module _ (n i : ℕ) (row x : List (List Float)) (old : Vec4) (h : i < n) (long : length row ≡ row_length n i) (wide : length x ≡ n) where
   pub row_times_lem : {s0 s1 s2 r : Vec4} → s0 ≡ vec4_add zero_row (vec4_scale old plus_zero)
-      → s1 ≡ add_products plus_one s0 (blocks16 row 0 (before i)) (rows4 x (4 * (i - before i)) (before i))
-      → s2 ≡ add_products plus_one s1 (blocks16 row (16 * before i) (after n i)) (rows4 x (4 * (i + 1)) (after n i))
-      → r ≡ vec4_add s2 (vec4_scale (mat4_times_vec4 (block16 row (16 * (before i + after n i))) (row4 x (4 * i))) plus_one)
-      → r ≡ row_times n i plus_zero plus_one (blocks16 row 0 (row_length n i)) (rows4 x 0 n) old
-  unfolding row_times row_length
+      → s1 ≡ add_products plus_one s0 (cut_blocks (take (before i) row)) (cut_rows (take (i - (i - before i)) (drop (i - before i) x)))
+      → s2 ≡ add_products plus_one s1 (cut_blocks (take (before i + after n i - before i) (drop (before i) row))) (cut_rows (take (i + 1 + after n i - (i + 1)) (drop (i + 1) x)))
+      → r ≡ vec4_add s2 (vec4_scale (mat4_times_vec4 (block16 (get_or row (before i + after n i) []) 0) (row4 (get_or x i []) 0)) plus_one)
+      → r ≡ row_times n i plus_zero plus_one (cut_blocks row) (cut_rows x) old
+  unfolding row_times row_length part
   row_times_lem e0 e1 e2 e =
       let b = before_le i in
       let a = after_le n i h in
-      let k = before i + after n i + 1 in
+      let wide_before : i - (i - before i) ≡ before i = omega arith in
+      let long_after : before i + after n i - before i ≡ after n i = omega arith in
+      let wide_after : i + 1 + after n i - (i + 1) ≡ after n i = omega arith in
       rw (
         e,
         e2,
         e1,
         e0,
-        part_blocks zero_block row 0 k 0 (before i) 0 (omega arith) (omega arith),
-        part_rows zero_row x 0 n (i - before i) (before i) (4 * (i - before i)) (omega arith) (omega arith),
-        part_blocks zero_block row 0 k (before i) (after n i) (16 * before i) (omega arith) (omega arith),
-        part_rows zero_row x 0 n (i + 1) (after n i) (4 * (i + 1)) (omega arith) (omega arith),
-        block_at zero_block row 0 k (before i + after n i) (16 * (before i + after n i)) (omega arith) (omega arith),
-        row_at_lem zero_row x 0 n i (4 * i) h (omega arith),
+        wide_before,
+        long_after,
+        wide_after,
+        part_map (λ c. block16 c 0) row 0 (before i),
+        part_map (λ c. row4 c 0) x (i - before i) (before i),
+        part_map (λ c. block16 c 0) row (before i) (after n i),
+        part_map (λ c. row4 c 0) x (i + 1) (after n i),
+        get_or-map (λ c. block16 c 0) row (before i + after n i) [] zero_block (omega arith),
+        get_or-map (λ c. row4 c 0) x i [] zero_row (omega arith),
       ) (row_begun old plus_one _ _ _ _ _ _)
 
--- ---- a part of the area lent on its own
-row_part : (w : List Float) (o m k : ℕ) → k + 4 ≤ m → row4 (part w o m) k ≡ row4 w (o + k)
-unfolding row4
-row_part w o m k h =
-    rw (
-      get_or_part w o m k nan (omega arith),
-      get_or_part w o m (k + 1) nan (omega arith),
-      get_or_part w o m (k + 2) nan (omega arith),
-      get_or_part w o m (k + 3) nan (omega arith),
-      add_assoc o k 1,
-      add_assoc o k 2,
-      add_assoc o k 3,
-    )
-
-pub rows_part : (w : List Float) (o m n : ℕ) → 4 * n ≤ m → rows4 (part w o m) 0 n ≡ rows4 w o n
-unfolding rows4
-rows_part w o m n h = table_ext n _ _ (λ i b. row_part w o m (0 + 4 * i) (omega arith) ∙ ap (row4 w) (omega arith))
-
-pub blocks_part : (w : List Float) (o m n : ℕ) → 16 * n ≤ m → blocks16 (part w o m) 0 n ≡ blocks16 w o n
-unfolding blocks16 block16
-blocks_part w o m n h = table_ext n _ _ (λ i b. columns (0 + 16 * i) (o + 16 * i) (omega arith) (omega arith))
-  where
-    columns : (k j : ℕ) → k + 16 ≤ m → o + k ≡ j → mat4 (row4 (part w o m) k) (row4 (part w o m) (k + 4)) (row4 (part w o m) (k + 8)) (row4 (part w o m) (k + 12)) ≡ mat4 (row4 w j) (row4 w (j + 4)) (row4 w (j + 8)) (row4 w (j + 12))
-    columns k j b e =
-        rw (
-          row_part w o m k (omega arith),
-          row_part w o m (k + 4) (omega arith),
-          row_part w o m (k + 8) (omega arith),
-          row_part w o m (k + 12) (omega arith),
-          ← e,
-          add_assoc o k 4,
-          add_assoc o k 8,
-          add_assoc o k 12,
-        )
-
 -- what `row_times` lends, where at and len are the row's place and its number of blocks
-pub lent_product : (w : List Float) (n i p at len : ℕ) (old r : Vec4) → at ≡ 16 * row_start n i → len ≡ row_length n i
-    → r ≡ row_times n i plus_zero plus_one (blocks16 (take (at + 16 * len - at) (drop at w)) 0 (row_length n i)) (rows4 (take (p + 4 * n - p) (drop p w)) 0 n) old
+pub lent_product : (w : List Float) (n i p at len k m : ℕ) (old r : Vec4) → at ≡ 16 * row_start n i → len ≡ row_length n i → k ≡ row_length n i → m ≡ n
+    → r ≡ row_times n i plus_zero plus_one (cut_blocks (first_chunks 16 k (take (at + 16 * len - at) (drop at w)))) (cut_rows (first_chunks 4 m (take (p + 4 * n - p) (drop p w)))) old
     → r ≡ row_times n i plus_zero plus_one (blocks16 w (16 * row_start n i) (row_length n i)) (rows4 w p n) old
 unfolding part
-lent_product w n i p at len old r es el e = rw (blocks_part w at (at + 16 * len - at) (row_length n i) (omega arith), rows_part w p (p + 4 * n - p) n (omega arith), es) at e
+lent_product w n i p at len k m old r es el ek em e = rw (blocks_lent w at (at + 16 * len - at) k (omega arith), rows_lent w p (p + 4 * n - p) m (omega arith), ek, em, es) at e
 
 -- ---- the whole product, stored row by row
 pub rows_unstored : {w v : List Float} {o : ℕ} {f : ℕ → Vec4} {i : ℕ} → Stored w v o f i → (a m : ℕ) → ((j : ℕ) → a ≤ j → j < a + 4 * m → o ≤ j → j < o + 4 * i → ⊥) → rows4 v a m ≡ rows4 w a m

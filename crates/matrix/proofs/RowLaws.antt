@@ -3,9 +3,10 @@ use mathlib.Core.Path.{◌≡◌, refl, ap}
 use mathlib.Core.List.{List, [], ◌∷◌, ◌++◌, zip_with}
 use Prim.Native.Nat.{ℕ, zero, suc, ◌+◌, ◌*◌, ◌≤◌}
 use native.Mathlib.Numerals.{add-one}
-use lib.ListN.{length}
+use native.Mathlib.Omega.{arith}
+use lib.ListN.{length, replicate}
 use lib.Ieee.{Float}
-use Rattle.vectors.specs.Number.{◌⊕◌}
+use Rattle.vectors.specs.Number.{◌⊕◌, plus_zero}
 use Rattle.vectors.specs.Vec4.{vec4_dot}
 use Rattle.vectors.specs.declared.vec3.Vec3.{Vec3}
 use Rattle.vectors.specs.declared.vec4.Vec4.{Vec4}
@@ -44,6 +45,11 @@ Stored = StoredAs four
 pub length_zeros : (n : ℕ) → length (zero_rows n) ≡ n
 unfolding zero_rows
 length_zeros n = length_table n _
+
+pub flat_zeros : (n : ℕ) → flat4 (zero_rows n) ≡ replicate (4 * n) plus_zero
+unfolding zero_rows table flat4 numbers4
+flat_zeros zero = refl
+flat_zeros (suc n) = let e : 4 * suc n ≡ suc (suc (suc (suc (4 * n)))) = omega arith in rw e (ap (λ (l : List Float). plus_zero ∷ plus_zero ∷ plus_zero ∷ plus_zero ∷ l) (flat_zeros n))
 
 -- four rows stored one behind the other
 pub put_rows : (w : List Float) {w₁ w₂ w₃ w₄ : List Float} (o : ℕ) (a b c d : Vec4) → w₁ ≡ put w o (numbers4 a) → w₂ ≡ put w₁ (o + 4) (numbers4 b) → w₃ ≡ put w₂ (o + 8) (numbers4 c) → w₄ ≡ put w₃ (o + 12) (numbers4 d)

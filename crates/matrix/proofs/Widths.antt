@@ -9,7 +9,7 @@ use lib.ListN.{length, get_or, length-append}
 use lib.Seq.{get_or-append-add}
 use lib.Ieee.{Float, nan}
 use Rattle.matrix.specs.Parts.{Apart, part, put, table}
-use Rattle.matrix.proofs.Parts.{length_table, table_ext, table_snoc, table_of, get_or_table, length_put, get_or_outside, get_or_inside, put_append, put_none, put_part, part_put_same}
+use Rattle.matrix.proofs.Parts.{length_table, table_ext, table_snoc, table_of, get_or_table, length_put, get_or_part, get_or_outside, get_or_inside, put_append, put_none, put_part, part_put_same}
 
 -- how an A stands in a list, as so many numbers
 pub record Width (A : Type 0) : Type 0 where
@@ -123,6 +123,13 @@ module _ {A : Type 0} (t : Width A) where
       t.rows_table (put w o p) k n
       ∙ table_ext n _ _ (λ i b. t.row_same (put w o p) w (k + t.wide * i) (k + t.wide * i) (λ a c x y e. let d : c ≡ a = omega arith in rw d (get_or_outside w o p a nan (λ l m. h a l m (omega arith) (omega (arith, within i n t.wide b))))))
       ∙ sym (t.rows_table w k n)
+
+  -- what is read in a part
+  pub rows_in_part : (w : List Float) (o m n : ℕ) → t.wide * n ≤ m → t.rows (part w o m) 0 n ≡ t.rows w o n
+  rows_in_part w o m n h =
+      t.rows_table (part w o m) 0 n
+      ∙ table_ext n _ _ (λ i b. t.row_same (part w o m) w (0 + t.wide * i) (o + t.wide * i) (λ a c x y e. let d : c ≡ o + a = omega arith in rw d (get_or_part w o m a nan (omega (arith, within i n t.wide b)))))
+      ∙ sym (t.rows_table w o n)
 
   pub rows_unstored_as : {B : Type 0} {s : Width B} {w v : List Float} {o : ℕ} {f : ℕ → B} {i : ℕ} → StoredAs s w v o f i → (k n : ℕ) → Apart k (t.wide * n) o (s.wide * i) → t.rows v k n ≡ t.rows w k n
   rows_unstored_as {B} {s} {w} {v} {o} {f} {i} p k n h = rw p.is (rows_apart w o (s.flat (table i f)) k n (λ j a b c d. h j c d a (omega (arith, length_flat_table s i f))))

@@ -8,7 +8,7 @@ use Rattle.matrix.specs.SliceOfArray.{zero_rows, dot_from, dot_rows, add_scaled_
 use Rattle.matrix.specs.Layout.{before, after, row_length, row_start, column_at, column_place, block_place}
 use Rattle.matrix.specs.SparseSquare.{add_products, row_times, matrix_rows, mult_vec}
 use Rattle.matrix.specs.Blocks.{matrix_of, block_in}
-use Rattle.matrix.specs.Pins.{unless_fixed, row_unless_fixed, set_fix_dof_to_rhs_vector, pinned_columns, column_fixed, block_fixed, set_fixed_bc}
+use Rattle.matrix.specs.Pins.{unless_pinned, row_unless_fixed, set_fix_dof_to_rhs_vector, pinned_columns, block_fixed, set_fixed_bc}
 use Rattle.matrix.specs.Area.{after_vectors}
 use Rattle.matrix.specs.System.{system_at, changed_if, every, system_is_finite}
 use Rattle.matrix.specs.HairSystem.{stretch_element, bend_element, staged_shape, rod_of, stretch_at, bend_at, stretches, bends, plus_gradient, plus_block, add_gradients, add_blocks, plus_element, plus_elements, sum_energies, sum_gradients, sum_blocks, assembled, diagonal_plus, with_diagonal, hair_elements, hair_energy, hair_system}
@@ -18,5 +18,5 @@ use Rattle.matrix.specs.ConjugateGradient.{solving_at, product_of, alpha_of, res
 use Rattle.matrix.specs.Iterations.{state_after, ratio_after, left_after}
 
 unfoldable pub opened : ℕ
-unfolding part put table row3 rows3 row4 rows4 block16 blocks16 numbers4 flat4 numbers16 zero_rows dot_from dot_rows add_scaled_vector scale_and_add_vec before after row_length row_start column_at column_place block_place add_products row_times matrix_rows mult_vec matrix_of block_in unless_fixed row_unless_fixed set_fix_dof_to_rhs_vector pinned_columns column_fixed block_fixed set_fixed_bc after_vectors system_at changed_if every system_is_finite stretch_element bend_element staged_shape rod_of stretch_at bend_at stretches bends plus_gradient plus_block add_gradients add_blocks plus_element plus_elements sum_energies sum_gradients sum_blocks assembled diagonal_plus with_diagonal hair_elements hair_energy hair_system pick_force pulled with_pull with_pick with_inertia fixed_where with_fixed with_pins solving_at product_of alpha_of residual_of redirected started ratio_of iterated conjugate_gradient state_after ratio_after left_after zip_with opened_elements
+unfolding part put table row3 rows3 row4 rows4 block16 blocks16 numbers4 flat4 numbers16 zero_rows dot_from dot_rows add_scaled_vector scale_and_add_vec before after row_length row_start column_at column_place block_place add_products row_times matrix_rows mult_vec matrix_of block_in unless_pinned row_unless_fixed set_fix_dof_to_rhs_vector pinned_columns block_fixed set_fixed_bc after_vectors system_at changed_if every system_is_finite stretch_element bend_element staged_shape rod_of stretch_at bend_at stretches bends plus_gradient plus_block add_gradients add_blocks plus_element plus_elements sum_energies sum_gradients sum_blocks assembled diagonal_plus with_diagonal hair_elements hair_energy hair_system pick_force pulled with_pull with_pick with_inertia fixed_where with_fixed with_pins solving_at product_of alpha_of residual_of redirected started ratio_of iterated conjugate_gradient state_after ratio_after left_after zip_with opened_elements
 opened = 0

@@ -9,10 +9,14 @@ use Rattle.matrix.specs.Parts.{table}
 use Rattle.matrix.specs.Rows.{zero_row, zero_block}
 use Rattle.matrix.specs.Blocks.{matrix_of, block_in}
 
+-- The old value where the byte pins, else the new one.
+unfoldable pub unless_pinned : {A : Type 0} → ℕ → A → A → A
+unless_pinned zero old new = new
+unless_pinned (suc b) old new = old
+
 -- sparse_square.rs, lines 64 to 67: a number is kept where its pin is 0.
-unfoldable pub unless_fixed : ℕ → Float → Float
-unless_fixed zero x = x
-unless_fixed (suc b) x = plus_zero
+abbrev pub unless_fixed : ℕ → Float → Float
+unless_fixed pin x = unless_pinned pin plus_zero x
 
 -- lines 63 to 68: the row whose pins begin at o
 unfoldable pub row_unless_fixed : List ℕ → ℕ → Vec4 → Vec4
@@ -36,9 +40,8 @@ pinned_columns true = unit_block
 pinned_columns false = zero_block
 
 -- e where the column's pin is not 0
-unfoldable pub column_fixed : ℕ → Vec4 → Vec4 → Vec4
-column_fixed zero e v = v
-column_fixed (suc b) e v = e
+abbrev pub column_fixed : ℕ → Vec4 → Vec4 → Vec4
+column_fixed pin e v = unless_pinned pin e v
 
 -- The block m at row i and column j: a pinned row of it is 0, a pinned column is that of e.
 unfoldable pub block_fixed : List ℕ → ℕ → ℕ → Mat4 → Mat4 → Mat4

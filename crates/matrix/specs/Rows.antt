@@ -1,5 +1,5 @@
 -- Rows of three and of four numbers, and blocks of sixteen, in a flat list.
-use Rattle.std.specs.Prelude.{List, [], ◌∷◌, ◌++◌, ℕ, ◌+◌, ◌*◌, get_or, Float}
+use Rattle.std.specs.Prelude.{List, [], ◌∷◌, ◌++◌, ℕ, ◌+◌, ◌*◌, map, get_or, Float}
 use Rattle.std.specs.Float.{nan}
 use Rattle.vectors.specs.Number.{plus_zero}
 use Rattle.vectors.specs.Vec3.{vec3}
@@ -37,6 +37,13 @@ block16 l o = mat4 (row4 l o) (row4 l (o + 4)) (row4 l (o + 8)) (row4 l (o + 12)
 
 unfoldable pub blocks16 : List Float → ℕ → ℕ → List Mat4
 blocks16 l o n = table n (λ i. block16 l (o + 16 * i))
+
+-- The rows and the blocks that lists of four and of sixteen numbers are.
+abbrev pub cut_rows : List (List Float) → List Vec4
+cut_rows ls = map (λ l. row4 l 0) ls
+
+abbrev pub cut_blocks : List (List Float) → List Mat4
+cut_blocks ls = map (λ l. block16 l 0) ls
 
 -- A vector's numbers, and those of several vectors.
 unfoldable pub numbers3 : Vec3 → List Float

@@ -1,5 +1,9 @@
-// Where the parts of the work area begin after the blocks of the matrix: the vectors of the solve,
-// and the positions, frames and velocities as a step would leave them.
+// The work area, and where its parts begin after the blocks of the matrix: the vectors of the solve, and
+// the positions, frames and velocities as a step would leave them.
+ghost use Rattle.std.specs.Prelude.{◌≡◌, ℕ, ◌≤◌};
+ghost use Rattle.matrix.specs.Rows.{rows3};
+ghost use Rattle.matrix.specs.Area.{place_positions, place_frames};
+
 pub const R: usize = 2464;
 
 pub const U: usize = 2592;
@@ -16,3 +20,22 @@ pub const VELOCITIES: usize = 3168;
 
 // How many numbers it has in all.
 pub const NUMBERS: usize = 3264;
+
+pub type Work = [f64; NUMBERS];
+
+// Three numbers for each of 32 vertices.
+pub type Vectors = [f64; 96];
+
+// The staged positions.
+pub fn positions(work: &Work) -> &Vectors
+    ensures { (n : ℕ) → n ≤ 32 → rows3 result.now 0 n ≡ rows3 work.now place_positions n }
+{
+    work[POSITIONS..FRAMES].as_array().unwrap()
+}
+
+// The staged x axes of the frames.
+pub fn frames(work: &Work) -> &Vectors
+    ensures { (n : ℕ) → n ≤ 32 → rows3 result.now 0 n ≡ rows3 work.now place_frames n }
+{
+    work[FRAMES..VELOCITIES].as_array().unwrap()
+}

@@ -1,11 +1,13 @@
 // The solve, by conjugate gradients. An iteration has two halves, between which the solve may end.
-ghost use Rattle.std.specs.Prelude.{◌≡◌, ◌≤◌, length, false};
+ghost use Rattle.std.specs.Prelude.{◌≡◌, false};
 ghost use Rattle.vectors.specs.Number.{◌⊘◌, plus_zero, plus_one};
 ghost use Rattle.matrix.specs.Rows.{rows4};
-ghost use Rattle.matrix.specs.Area.{place_r, work_numbers};
+ghost use Rattle.matrix.specs.Area.{place_r};
 ghost use Rattle.matrix.specs.SparseSquare.{matrix_rows};
 ghost use Rattle.matrix.specs.ConjugateGradient.{Kept, vectors_at, solving_at, started, descended, redirected, outcome, iterated, conjugate_gradient};
 
+use crate::area::Work;
+use crate::vertices::Vertices;
 use crate::{area, root_bound, slice_of_array, sparse_square};
 
 // 2^-52: a residual whose square is below it counts as 0.
@@ -19,49 +21,41 @@ pub struct Solve {
 }
 
 // Along the direction, as far as the residual falls. From the residual's square to its new one.
-fn descend(work: &mut [f64], n: usize, rho: f64) -> f64
-    requires n_in_range { (2 ≤ n) × (n ≤ 32) }
-    requires work_len { length work.old ≡ work_numbers }
-    ensures vectors_after { solving_at n work.new result ≡ descended n (matrix_rows work.old n) (solving_at n work.old rho) }
-    ensures kept { Kept n work.old work.new }
+fn descend(work: &mut Work, n: Vertices, rho: f64) -> f64
+    ensures vectors_after { solving_at n.count work.new result ≡ descended n.count (matrix_rows work.old n.count) (solving_at n.count work.old rho) }
+    ensures kept { Kept n.count work.old work.new }
 {
     sparse_square::mult_vec(work, n, area::P, area::AP);
-    let pap = slice_of_array::dot(work, area::P, area::AP, n);
+    let pap = slice_of_array::dot(work, area::P, area::AP, n.count);
     let alpha = rho / pap;
-    slice_of_array::add_scaled_vector(work, area::U, alpha, area::P, n);
-    slice_of_array::add_scaled_and_square(work, area::R, -alpha, area::AP, n)
+    slice_of_array::add_scaled_vector(work, area::U, alpha, area::P, n.count);
+    slice_of_array::add_scaled_and_square(work, area::R, -alpha, area::AP, n.count)
 }
 
 // The next direction, from the residual's squares before and after the descent.
-fn redirect(work: &mut [f64], n: usize, before: f64, rho: f64)
-    requires n_in_range { (2 ≤ n) × (n ≤ 32) }
-    requires work_len { length work.old ≡ work_numbers }
-    ensures vectors_after { solving_at n work.new rho ≡ redirected before (solving_at n work.old rho) }
-    ensures kept { Kept n work.old work.new }
+fn redirect(work: &mut Work, n: Vertices, before: f64, rho: f64)
+    ensures vectors_after { solving_at n.count work.new rho ≡ redirected before (solving_at n.count work.old rho) }
+    ensures kept { Kept n.count work.old work.new }
 {
-    slice_of_array::scale_and_add_vec(work, area::P, rho / before, area::R, n);
+    slice_of_array::scale_and_add_vec(work, area::P, rho / before, area::R, n.count);
 }
 
 // From the residual alone to the state before the first iteration. Answers the residual's square.
-fn begin(work: &mut [f64], n: usize) -> f64
-    requires n_in_range { (2 ≤ n) × (n ≤ 32) }
-    requires work_len { length work.old ≡ work_numbers }
-    ensures vectors_after { solving_at n work.new result ≡ started n (rows4 work.old place_r n) }
-    ensures kept { Kept n work.old work.new }
+fn begin(work: &mut Work, n: Vertices) -> f64
+    ensures vectors_after { solving_at n.count work.new result ≡ started n.count (rows4 work.old place_r n.count) }
+    ensures kept { Kept n.count work.old work.new }
 {
-    slice_of_array::set_zero(work, area::U, n);
-    slice_of_array::set_zero(work, area::AP, n);
-    slice_of_array::copy(work, area::P, area::R, n);
-    slice_of_array::dot(work, area::R, area::R, n)
+    slice_of_array::set_zero(work, area::U, n.count);
+    slice_of_array::set_zero(work, area::AP, n.count);
+    slice_of_array::copy(work, area::P, area::R, n.count);
+    slice_of_array::dot(work, area::R, area::R, n.count)
 }
 
 // At most `limit` iterations, until the ratio is below the tolerance. The root of `square` is the
 // last ratio, and 0 before the first.
-fn iterate(work: &mut [f64], n: usize, first: f64, tolerance: f64, limit: usize) -> Solve
-    requires n_in_range { (2 ≤ n) × (n ≤ 32) }
-    requires work_len { length work.old ≡ work_numbers }
-    ensures outcome_is { outcome (vectors_at n work.new) result.count result.ratio ≡ iterated n (matrix_rows work.old n) (plus_one ⊘ first) tolerance limit false (outcome (vectors_at n work.old) 0 plus_zero) (solving_at n work.old first) }
-    ensures kept { Kept n work.old work.new }
+fn iterate(work: &mut Work, n: Vertices, first: f64, tolerance: f64, limit: usize) -> Solve
+    ensures outcome_is { outcome (vectors_at n.count work.new) result.count result.ratio ≡ iterated n.count (matrix_rows work.old n.count) (plus_one ⊘ first) tolerance limit false (outcome (vectors_at n.count work.old) 0 plus_zero) (solving_at n.count work.old first) }
+    ensures kept { Kept n.count work.old work.new }
 {
     let inverse = 1.0 / first;
     let bound = root_bound::bound_of(tolerance);
@@ -87,11 +81,9 @@ fn iterate(work: &mut [f64], n: usize, first: f64, tolerance: f64, limit: usize)
 
 // The solution, for the residual and the matrix that stand in the area, is left at U; residual,
 // direction and product as the last iteration leaves them.
-pub fn conjugate_gradient(work: &mut [f64], n: usize, tolerance: f64, limit: usize) -> Solve
-    requires n_in_range { (2 ≤ n) × (n ≤ 32) }
-    requires work_len { length work.old ≡ work_numbers }
-    ensures outcome_is { outcome (vectors_at n work.new) result.count result.ratio ≡ conjugate_gradient n (matrix_rows work.old n) tolerance limit (rows4 work.old place_r n) }
-    ensures kept { Kept n work.old work.new }
+pub fn conjugate_gradient(work: &mut Work, n: Vertices, tolerance: f64, limit: usize) -> Solve
+    ensures outcome_is { outcome (vectors_at n.count work.new) result.count result.ratio ≡ conjugate_gradient n.count (matrix_rows work.old n.count) tolerance limit (rows4 work.old place_r n.count) }
+    ensures kept { Kept n.count work.old work.new }
 {
     let rho = begin(work, n);
     if rho < EPSILON {

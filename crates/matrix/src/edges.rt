@@ -2,14 +2,18 @@
 // staged.
 ghost use Rattle.std.specs.Prelude.{◌≡◌, ◌+◌, ◌-◌, ◌*◌, ◌≤◌, ◌<◌, length};
 ghost use Rattle.matrix.specs.Rows.{rows3};
-ghost use Rattle.matrix.specs.Area.{place_positions, work_numbers};
+ghost use Rattle.matrix.specs.Area.{place_positions};
 ghost use Rattle.matrix.specs.HairSystem.{shape, staged_shape};
 ghost use Rattle.matrix.specs.Edges.{length_at, edge_lengths, frame_at, frames_at};
 
-use crate::{area, rows};
+use crate::area;
+use crate::area::Work;
+use crate::rows::Row;
+use crate::vertices::Vertices;
 use elements::rod3_darboux;
 use elements::rod3_darboux::EdgeFrame;
 use vectors::edge3;
+use vectors::vec3::Vec3;
 
 // One edge at rest and as it is staged.
 #[derive(Clone, Copy)]
@@ -18,78 +22,64 @@ pub struct EdgeFrames {
     pub def: EdgeFrame,
 }
 
-// The length of the edge from vertex i, of the positions at p.
-fn length_at(xyz: &[f64], p: usize, n: usize, i: usize) -> f64
-    requires i_bound { i + 1 < n }
-    requires p_in_xyz { p + 3 * n ≤ length xyz.now }
-    ensures { result ≡ length_at (rows3 xyz.now p n) i }
+// The length of the edge from vertex i.
+fn length_at(xyz: &[f64], n: Vertices, i: usize) -> f64
+    requires i_bound { i + 1 < n.count }
+    requires xyz_long { 3 * n.count ≤ length xyz.now }
+    ensures { result ≡ length_at (rows3 xyz.now 0 n.count) i }
 {
-    let p0 = rows::load3(xyz, p + 3 * i);
-    let p1 = rows::load3(xyz, p + 3 * i + 3);
-    let edge = edge3::length(p0, p1);
-    edge.value
+    let p0 = Vec3::load(xyz, 3 * i);
+    let p1 = Vec3::load(xyz, 3 * i + 3);
+    edge3::length(p0, p1).value
 }
 
-// The lengths of all edges, of the positions at p, and 0 after them.
-pub fn edge_lengths(xyz: &[f64], p: usize, n: usize) -> [f64; 32]
-    requires n_in_range { (2 ≤ n) × (n ≤ 32) }
-    requires p_in_xyz { p + 3 * n ≤ length xyz.now }
-    ensures { result ≡ edge_lengths (n - 1) (rows3 xyz.now p n) }
+// The lengths of all edges, and 0 after them.
+pub fn edge_lengths(xyz: &[f64], n: Vertices) -> [f64; 32]
+    requires { 3 * n.count ≤ length xyz.now }
+    ensures { result ≡ edge_lengths (n.count - 1) (rows3 xyz.now 0 n.count) }
 {
     let mut lengths = [0.0; 32];
-    let mut i = 0;
-    while i + 1 < n {
-        lengths[i] = length_at(xyz, p, n, i);
-        i += 1;
+    for i in 0..n.count - 1 {
+        lengths[i] = length_at(xyz, n, i);
     }
     lengths
 }
 
-// The edge from vertex i, of the positions at p and the x axes at f; its length is known.
-fn frame_at(
-    xyz: &[f64],
-    p: usize,
-    framex: &[f64],
-    f: usize,
-    n: usize,
-    i: usize,
-    len: f64,
-) -> EdgeFrame
-    requires i_bound { i + 1 < n }
-    requires p_in_xyz { p + 3 * n ≤ length xyz.now }
-    requires f_in_framex { f + 3 * n ≤ length framex.now }
-    requires len_value { len ≡ length_at (rows3 xyz.now p n) i }
-    ensures { result ≡ frame_at (shape (rows3 xyz.now p n) (rows3 framex.now f n)) i }
+// The edge from vertex i; its length is known.
+fn frame_at(xyz: &[f64], framex: &[f64], n: Vertices, i: usize, len: f64) -> EdgeFrame
+    requires i_bound { i + 1 < n.count }
+    requires xyz_long { 3 * n.count ≤ length xyz.now }
+    requires framex_long { 3 * n.count ≤ length framex.now }
+    requires len_value { len ≡ length_at (rows3 xyz.now 0 n.count) i }
+    ensures { result ≡ frame_at (shape (rows3 xyz.now 0 n.count) (rows3 framex.now 0 n.count)) i }
 {
-    let p0 = rows::load3(xyz, p + 3 * i);
-    let p1 = rows::load3(xyz, p + 3 * i + 3);
-    let x = rows::load3(framex, f + 3 * i);
+    let p0 = Vec3::load(xyz, 3 * i);
+    let p1 = Vec3::load(xyz, 3 * i + 3);
+    let x = Vec3::load(framex, 3 * i);
     rod3_darboux::edge_frame_of_length(p0, p1, x, len)
 }
 
-// The edge from vertex i in both shapes, by its lengths there; `rest` and `axes` have the positions
-// and x axes at rest.
+// The edge from vertex i in both shapes, by its lengths there; `rest` and `axes` are the positions and
+// the x axes at rest.
 #[tactic(auto, unfolding(crate::specs::HairSystem::staged_shape, crate::specs::Edges::frames_at))]
 pub fn frames_at(
-    work: &[f64],
+    work: &Work,
     rest: &[f64],
     axes: &[f64],
-    n: usize,
+    n: Vertices,
     i: usize,
     ini: f64,
     def: f64,
 ) -> EdgeFrames
-    requires i_bound { i + 1 < n }
-    requires n_bound { n ≤ 32 }
-    requires rest_long { 3 * n ≤ length rest.now }
-    requires axes_long { 3 * n ≤ length axes.now }
-    requires work_len { length work.now ≡ work_numbers }
-    requires ini_value { ini ≡ length_at (rows3 rest.now 0 n) i }
-    requires def_value { def ≡ length_at (rows3 work.now place_positions n) i }
-    ensures { result ≡ frames_at (shape (rows3 rest.now 0 n) (rows3 axes.now 0 n)) (staged_shape n work.now) i }
+    requires i_bound { i + 1 < n.count }
+    requires rest_long { 3 * n.count ≤ length rest.now }
+    requires axes_long { 3 * n.count ≤ length axes.now }
+    requires ini_value { ini ≡ length_at (rows3 rest.now 0 n.count) i }
+    requires def_value { def ≡ length_at (rows3 work.now place_positions n.count) i }
+    ensures { result ≡ frames_at (shape (rows3 rest.now 0 n.count) (rows3 axes.now 0 n.count)) (staged_shape n.count work.now) i }
 {
     EdgeFrames {
-        ini: frame_at(rest, 0, axes, 0, n, i, ini),
-        def: frame_at(work, area::POSITIONS, work, area::FRAMES, n, i, def),
+        ini: frame_at(rest, axes, n, i, ini),
+        def: frame_at(area::positions(work), area::frames(work), n, i, def),
     }
 }

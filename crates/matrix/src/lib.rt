@@ -13,3 +13,4 @@ pub mod rows;
 mod slice_of_array;
 mod sparse_square;
 pub mod system;
+pub mod vertices;

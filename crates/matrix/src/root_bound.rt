@@ -16,7 +16,7 @@ pub fn bound_of(tolerance: f64) -> f64
         if square < bound {
             return bound;
         }
-        return 1.0 / 0.0;
+        return f64::INFINITY;
     }
     0.0
 }
@@ -27,7 +27,7 @@ pub fn root_if_below(q: f64, tolerance: f64, bound: f64) -> f64
     ensures { RootIfBelow q tolerance result }
 {
     if bound <= q {
-        1.0 / 0.0
+        f64::INFINITY
     } else {
         roots::sqrt(q)
     }

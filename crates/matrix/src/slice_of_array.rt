@@ -5,26 +5,15 @@ ghost use Rattle.matrix.specs.Parts.{put, Apart};
 ghost use Rattle.matrix.specs.Rows.{rows4, flat4};
 ghost use Rattle.matrix.specs.SliceOfArray.{zero_rows, dot_rows, add_scaled_vector, scale_and_add_vec};
 
-use crate::rows;
+use crate::rows::Row;
 use vectors::vec4;
 use vectors::vec4::Vec4;
 
-#[tactic(auto, unfolding(crate::specs::SliceOfArray::zero_rows))]
 pub fn set_zero(work: &mut [f64], to: usize, n: usize)
     requires { to + 4 * n ≤ length work.old }
     ensures { work.new ≡ put work.old to (flat4 (zero_rows n)) }
 {
-    let zero = Vec4 {
-        x: 0.0,
-        y: 0.0,
-        z: 0.0,
-        w: 0.0,
-    };
-    let mut i = 0;
-    while i < n {
-        rows::store4(work, to + 4 * i, zero);
-        i += 1;
-    }
+    work[to..to + 4 * n].fill(0.0);
 }
 
 // The sum of the rows' products, upward from +0.
@@ -35,26 +24,21 @@ pub fn dot(work: &[f64], a: usize, b: usize, n: usize) -> f64
     ensures { result ≡ dot_rows (rows4 work.now a n) (rows4 work.now b n) }
 {
     let mut sum = 0.0;
-    let mut i = 0;
-    while i < n {
-        sum = sum + vec4::dot(rows::load4(work, a + 4 * i), rows::load4(work, b + 4 * i));
-        i += 1;
+    for i in 0..n {
+        sum += vec4::dot(Vec4::load(work, a + 4 * i), Vec4::load(work, b + 4 * i));
     }
     sum
 }
 
-#[tactic(auto, unfolding(crate::specs::Rows::rows4))]
+// Row by row: `copy_within` would have the compiled code call memmove, which nothing else needs.
 pub fn copy(work: &mut [f64], to: usize, from: usize, n: usize)
     requires to_in_work { to + 4 * n ≤ length work.old }
     requires from_in_work { from + 4 * n ≤ length work.old }
     requires apart { Apart to (4 * n) from (4 * n) }
     ensures { work.new ≡ put work.old to (flat4 (rows4 work.old from n)) }
 {
-    let mut i = 0;
-    while i < n {
-        let v = rows::load4(work, from + 4 * i);
-        rows::store4(work, to + 4 * i, v);
-        i += 1;
+    for i in 0..n {
+        Vec4::load(work, from + 4 * i).store(work, to + 4 * i);
     }
 }
 
@@ -65,12 +49,10 @@ pub fn add_scaled_vector(work: &mut [f64], to: usize, alpha: f64, from: usize, n
     requires apart { Apart to (4 * n) from (4 * n) }
     ensures { work.new ≡ put work.old to (flat4 (add_scaled_vector (rows4 work.old to n) alpha (rows4 work.old from n))) }
 {
-    let mut i = 0;
-    while i < n {
-        let u = rows::load4(work, to + 4 * i);
-        let p = rows::load4(work, from + 4 * i);
-        rows::store4(work, to + 4 * i, vec4::add(u, vec4::scale(p, alpha)));
-        i += 1;
+    for i in 0..n {
+        let u = Vec4::load(work, to + 4 * i);
+        let p = Vec4::load(work, from + 4 * i);
+        (u + p * alpha).store(work, to + 4 * i);
     }
 }
 
@@ -83,14 +65,12 @@ pub fn add_scaled_and_square(work: &mut [f64], to: usize, alpha: f64, from: usiz
     ensures value { result ≡ dot_rows (rows4 work.new to n) (rows4 work.new to n) }
 {
     let mut square = 0.0;
-    let mut i = 0;
-    while i < n {
-        let a = rows::load4(work, to + 4 * i);
-        let b = rows::load4(work, from + 4 * i);
-        let v = vec4::add(a, vec4::scale(b, alpha));
-        rows::store4(work, to + 4 * i, v);
-        square = square + vec4::dot(v, v);
-        i += 1;
+    for i in 0..n {
+        let a = Vec4::load(work, to + 4 * i);
+        let b = Vec4::load(work, from + 4 * i);
+        let v = a + b * alpha;
+        v.store(work, to + 4 * i);
+        square += vec4::dot(v, v);
     }
     square
 }
@@ -102,11 +82,9 @@ pub fn scale_and_add_vec(work: &mut [f64], to: usize, beta: f64, from: usize, n:
     requires apart { Apart to (4 * n) from (4 * n) }
     ensures { work.new ≡ put work.old to (flat4 (scale_and_add_vec (rows4 work.old to n) beta (rows4 work.old from n))) }
 {
-    let mut i = 0;
-    while i < n {
-        let p = rows::load4(work, to + 4 * i);
-        let r = rows::load4(work, from + 4 * i);
-        rows::store4(work, to + 4 * i, vec4::add(r, vec4::scale(p, beta)));
-        i += 1;
+    for i in 0..n {
+        let p = Vec4::load(work, to + 4 * i);
+        let r = Vec4::load(work, from + 4 * i);
+        (r + p * beta).store(work, to + 4 * i);
     }
 }

@@ -18,7 +18,7 @@ returns c =
     let a = c.args in
     let b = c.begin-rho.ensures in
     let i = c.iterate.ensures in
-    let same = ap (λ (m : List (List Mat4)). conjugate_gradient a.n m a.tolerance a.limit (rows4 a.work.now place_r a.n)) b.kept.matrix in
+    let same = ap (λ (m : List (List Mat4)). conjugate_gradient a.n.count m a.tolerance a.limit (rows4 a.work.now place_r a.n.count)) b.kept.matrix in
     record {
       outcome_is = i.outcome_is ∙ large _ _ _ _ _ _ _ b.vectors_after c.if-rho.false ∙ same;
       kept = kept_on b.kept i.kept;

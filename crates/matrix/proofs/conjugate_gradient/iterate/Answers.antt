@@ -5,7 +5,7 @@ use Rattle.matrix.proofs.Going.{going_first, going_spent, going_enough, going_on
 use Rattle.matrix.proofs.conjugate_gradient.iterate.Goals as goal
 
 pub loop-count-init : goal.loop-count-init
-loop-count-init c = record { within = omega arith; going = going_first _ _ _ _ _ _ c.requires.work_len }
+loop-count-init c = record { within = omega arith; going = going_first _ _ _ _ _ _ c.told-work }
 
 pub loop-count-preserved : goal.loop-count-preserved
 loop-count-preserved c =

@@ -4,5 +4,5 @@ use Rattle.matrix.proofs.conjugate_gradient.redirect.Goals as goal
 
 pub returns : goal.returns
 returns c =
-    let all = redirects _ _ _ _ _ c.requires.n_in_range c.requires.work_len c.scale_and_add_vec.ensures in
+    let all = redirects _ _ _ _ _ c.args.n.in_range c.told-work c.scale_and_add_vec.ensures in
     record { vectors_after = all.0; kept = all.1 }

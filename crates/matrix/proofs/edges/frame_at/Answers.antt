@@ -8,14 +8,16 @@ use Rattle.matrix.proofs.edges.frame_at.Goals as goal
 pub returns : goal.returns
 unfolding frame_at length_at
 returns c =
-    let a = c.args in
+    let xyz = c.args.xyz.now in
+    let n = c.args.n.count in
+    let i = c.args.i in
     simp (
       c.edge_frame_of_length.ensures,
-      c.load3-x.ensures,
-      c.load3-p1.ensures,
-      c.load3-p0.ensures,
-      vec3_at_lem a.xyz.now a.p a.n a.i (a.p + 3 * a.i) (omega arith) (omega arith),
-      vec3_at_lem a.xyz.now a.p a.n (a.i + 1) (a.p + 3 * a.i + 3) (omega arith) (omega arith),
-      vec3_at_lem a.framex.now a.f a.n a.i (a.f + 3 * a.i) (omega arith) (omega arith),
+      c.load-x.ensures,
+      c.load-p1.ensures,
+      c.load-p0.ensures,
+      vec3_at_lem xyz 0 n i (3 * i) (omega arith) (omega arith),
+      vec3_at_lem xyz 0 n (i + 1) (3 * i + 3) (omega arith) (omega arith),
+      vec3_at_lem c.args.framex.now 0 n i (3 * i) (omega arith) (omega arith),
     )
     (frame_of_own_length _ _ _ _ c.requires.len_value)

@@ -9,11 +9,7 @@ use Rattle.matrix.proofs.edges.length_at.Goals as goal
 pub returns : goal.returns
 unfolding length_at edge_length measured_of vec3_norm
 returns c =
-    let a = c.args in
-    simp (
-      c.length-edge.ensures,
-      c.load3-p1.ensures,
-      c.load3-p0.ensures,
-      vec3_at_lem a.xyz.now a.p a.n a.i (a.p + 3 * a.i) (omega arith) (omega arith),
-      vec3_at_lem a.xyz.now a.p a.n (a.i + 1) (a.p + 3 * a.i + 3) (omega arith) (omega arith),
-    )
+    let xyz = c.args.xyz.now in
+    let n = c.args.n.count in
+    let i = c.args.i in
+    simp (c.length.ensures, c.load-p1.ensures, c.load-p0.ensures, vec3_at_lem xyz 0 n i (3 * i) (omega arith) (omega arith), vec3_at_lem xyz 0 n (i + 1) (3 * i + 3) (omega arith) (omega arith))

@@ -10,39 +10,35 @@ use Rattle.matrix.proofs.SystemLaws.{gathered_none, gathered_more}
 use Rattle.matrix.proofs.hair_system.add_bends.Goals as goal
 
 pub frames_at-a-requires-clause-ini_value : goal.frames_at-a-requires-clause-ini_value
-frames_at-a-requires-clause-ini_value c = length_in (c.args.n - 1) _ 0 c.requires.ini_value refl (omega arith) (omega arith)
+frames_at-a-requires-clause-ini_value c = length_in (c.args.n.count - 1) _ 0 c.requires.ini_value refl (omega arith) (omega arith)
 
 pub frames_at-a-requires-clause-def_value : goal.frames_at-a-requires-clause-def_value
-frames_at-a-requires-clause-def_value c = length_in (c.args.n - 1) _ 0 c.requires.def_value refl (omega arith) (omega arith)
+frames_at-a-requires-clause-def_value c = length_in (c.args.n.count - 1) _ 0 c.requires.def_value refl (omega arith) (omega arith)
 
 pub loop-i-init : goal.loop-i-init
-loop-i-init c = record {
-  within = omega arith;
-  edge = c.frames_at-a.ensures;
-  gathered = gathered_none _ _ _ _ c.requires.work_len;
-}
+loop-i-init c = record { edge = c.frames_at-a.ensures; gathered = gathered_none _ _ _ _ c.told-work }
 
 pub frames_at-b-requires-clause-ini_value : goal.frames_at-b-requires-clause-ini_value
-frames_at-b-requires-clause-ini_value c = length_in (c.args.n - 1) _ (c.loop-i.i + 1) c.requires.ini_value refl (omega arith) (omega arith)
+frames_at-b-requires-clause-ini_value c = length_in (c.args.n.count - 1) _ (c.loop-i.i + 1) c.requires.ini_value refl (omega arith) (omega arith)
 
 pub frames_at-b-requires-clause-def_value : goal.frames_at-b-requires-clause-def_value
 frames_at-b-requires-clause-def_value c =
     let a = c.args in
     let l = c.loop-i in
-    length_in (a.n - 1) _ (l.i + 1) c.requires.def_value (rows3_kept a.work.now l.work l.invariant.gathered.after place_positions a.n (omega arith)) (omega arith) (omega arith)
+    length_in (a.n.count - 1) _ (l.i + 1) c.requires.def_value (rows3_kept a.work.now l.work l.invariant.gathered.after place_positions a.n.count (omega arith)) (omega arith) (omega arith)
 
 pub loop-i-preserved : goal.loop-i-preserved
 unfolding bend_element
 loop-i-preserved c =
     let a = c.args in
+    let n = a.n.count in
     let l = c.loop-i in
     let g = l.invariant.gathered in
-    let ini = shape (rows3 a.rest.now 0 a.n) (rows3 a.axes.now 0 a.n) in
-    let def = staged_shape a.n a.work.now in
-    let next = c.frames_at-b.ensures ∙ ap (λ (x : Shape). frames_at ini x (l.i + 1)) (shape_kept a.work.now l.work g.after a.n) in
+    let ini = shape (rows3 a.rest.now 0 n) (rows3 a.axes.now 0 n) in
+    let def = staged_shape n a.work.now in
+    let next = c.frames_at-b.ensures ∙ ap (λ (x : Shape). frames_at ini x (l.i + 1)) (shape_kept a.work.now l.work g.after n) in
     let same : c.bend_between-e.result ≡ bend_at ini def a.k l.i = rw (c.bend_between-e.ensures, l.invariant.edge, next) (bend_by_frames ini def a.k l.i) in
     record {
-      within = omega arith;
       edge = next;
       gathered = gathered_more (bend_element l.i c.bend_between-e.result) g (ap (bend_element l.i) same) c.add_bend.ensures.work_after c.add_bend.ensures.after_vectors_kept (search rules);
     }
@@ -51,5 +47,5 @@ pub returns : goal.returns
 unfolding bends
 returns c =
     let g = c.loop-i.invariant.gathered in
-    let e : c.args.n - 2 ≡ c.loop-i.i = omega arith in
+    let e : c.args.n.count - 2 ≡ c.loop-i.i = omega arith in
     rw e (record { value = g.energy; work_after = g.system; after_vectors_kept = g.after })

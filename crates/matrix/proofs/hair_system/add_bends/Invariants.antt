@@ -1,5 +1,5 @@
 -- The invariant: the first i elements are added to the system and to the energy, and a is the edge from vertex i. The shape that is read is still the staged one.
-use Rattle.std.proofs.Common.{◌≡◌, ℕ, ◌+◌, ◌-◌, ◌≤◌}
+use Rattle.std.proofs.Common.{◌≡◌, ℕ}
 use Rattle.matrix.specs.Rows.{rows3}
 use Rattle.matrix.specs.HairSystem.{shape, staged_shape, bend_element, bend_at}
 use Rattle.matrix.specs.Edges.{frames_at}
@@ -7,11 +7,11 @@ use Rattle.matrix.proofs.SystemLaws.{Gathered}
 use Rattle.matrix.proofs.hair_system.add_bends.Given as goal
 
 abbrev pub invariant-loop-i : goal.invariant-loop-i
-invariant-loop-i l = record {
-  within : l.i + 2 ≤ l.n;
-  edge : l.a ≡ frames_at (shape (rows3 l.rest 0 l.n) (rows3 l.axes 0 l.n)) (staged_shape l.n l.initial.work) l.i;
-  gathered : Gathered l.n l.initial.work l.w (λ (j : ℕ). bend_element j (bend_at (shape (rows3 l.rest 0 l.n) (rows3 l.axes 0 l.n)) (staged_shape l.n l.initial.work) l.k j)) l.i l.work l.sum;
-}
-
-abbrev pub decreases-loop-i : goal.decreases-loop-i
-decreases-loop-i l = l.n - l.i
+invariant-loop-i l =
+    let n = l.n.count in
+    let rest = shape (rows3 l.rest 0 n) (rows3 l.axes 0 n) in
+    let staged = staged_shape n l.initial.work in
+    record {
+      edge : l.a ≡ frames_at rest staged l.i;
+      gathered : Gathered n l.initial.work l.w (λ (j : ℕ). bend_element j (bend_at rest staged l.k j)) l.i l.work l.sum;
+    }

@@ -10,6 +10,14 @@ use Rattle.matrix.proofs.hair_system.stretch_at.Goals as goal
 pub returns : goal.returns
 unfolding stretch_by length_at
 returns c =
-    let a = c.args in
-    simp (c.stretch_of_length.ensures, c.load3-p1.ensures, c.load3-p0.ensures, vec3_at_lem a.work.now place_positions a.n a.i (place_positions + 3 * a.i) (omega arith) (omega arith), vec3_at_lem a.work.now place_positions a.n (a.i + 1) (place_positions + 3 * a.i + 3) (omega arith) (omega arith))
+    let w = c.args.work.now in
+    let n = c.args.n.count in
+    let i = c.args.i in
+    simp (
+      c.stretch_of_length.ensures,
+      c.load-p1.ensures,
+      c.load-p0.ensures,
+      vec3_at_lem w place_positions n i (place_positions + 3 * i) (omega arith) (omega arith),
+      vec3_at_lem w place_positions n (i + 1) (place_positions + 3 * i + 3) (omega arith) (omega arith),
+    )
     (stretch_of_own_length _ _ _ _ _ (c.requires.def_value ∙ norm_reversed _ _))

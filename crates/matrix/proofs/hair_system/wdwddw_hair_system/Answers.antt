@@ -8,17 +8,25 @@ use Rattle.matrix.proofs.Shapes.{rows3_kept}
 use Rattle.matrix.proofs.Assembly.{assembly}
 use Rattle.matrix.proofs.hair_system.wdwddw_hair_system.Goals as goal
 
+pub add_stretches-w-requires : goal.add_stretches-w-requires
+add_stretches-w-requires c =
+    let n = c.args.n in
+    record { def_value = c.edge_lengths-def.ensures ∙ ap (edge_lengths (n.count - 1)) (c.positions.ensures n.count n.in_range.1) }
+
 pub add_bends-energy-requires-clause-def_value : goal.add_bends-energy-requires-clause-def_value
 add_bends-energy-requires-clause-def_value c =
-    c.edge_lengths-def.ensures ∙ ap (edge_lengths (c.args.n - 1)) (sym (rows3_kept _ _ c.add_stretches-w.ensures.after_vectors_kept place_positions c.args.n (omega arith)))
+    let n = c.args.n in
+    c.edge_lengths-def.ensures
+    ∙ ap (edge_lengths (n.count - 1)) (c.positions.ensures n.count n.in_range.1 ∙ sym (rows3_kept _ _ c.add_stretches-w.ensures.after_vectors_kept place_positions n.count (omega arith)))
 
 pub returns : goal.returns
 returns c =
     let a = c.args in
-    let ini = shape (rows3 a.rest.now 0 a.n) (rows3 a.axes.now 0 a.n) in
+    let n = a.n.count in
+    let ini = shape (rows3 a.rest.now 0 n) (rows3 a.axes.now 0 n) in
     let cleared = c.clear.ensures in
     let stretched = c.add_stretches-w.ensures in
     let bent = c.add_bends-energy.ensures in
     let damped = c.add_to_diagonals.ensures in
-    let all = assembly a.n ini a.stretch a.bendtwist _ a.work.now _ _ _ _ _ _ c.requires.n_in_range.1 c.edge_lengths-ini.ensures cleared.work_after cleared.after_vectors_kept stretched.value stretched.work_after stretched.after_vectors_kept bent.value bent.work_after bent.after_vectors_kept damped.work_after damped.after_vectors_kept in
+    let all = assembly n ini a.stretch a.bendtwist _ a.work.now _ _ _ _ _ _ a.n.in_range.1 c.edge_lengths-ini.ensures cleared.work_after cleared.after_vectors_kept stretched.value stretched.work_after stretched.after_vectors_kept bent.value bent.work_after bent.after_vectors_kept damped.work_after damped.after_vectors_kept in
     record { value = all.0; work_after = all.1.0; after_vectors_kept = all.1.1 }

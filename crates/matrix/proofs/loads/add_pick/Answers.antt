@@ -9,5 +9,5 @@ pub returns-clause-work_after : goal.returns-clause-work_after
 unfolding with_pick pick_force
 returns-clause-work_after c =
     let a = c.args in
-    let at = vec3_at_lem a.work.now place_positions a.n a.v (place_positions + 3 * a.v) c.requires.v_lt_n refl in
-    rw (c.add_block.ensures.work_after, c.pull.ensures.work_after, c.scale-c.ensures, c.sub.ensures, c.load3-p.ensures, at, c.pick_block.ensures)
+    let at = vec3_at_lem a.work.now place_positions a.n.count a.v (place_positions + 3 * a.v) c.requires.v_lt_n refl in
+    rw (c.add_block.ensures.work_after, c.pull.ensures.work_after, c.mul-c.ensures, c.sub.ensures, c.load-p.ensures, at, c.pick_block.ensures)

@@ -7,9 +7,9 @@ pub returns : goal.returns
 unfolding with_pull
 returns c =
     let a = c.args in
-    let p = c.requires in
-    let e = rw (c.pulled.ensures, c.load4-g.ensures) at c.store4.ensures in
+    let n = a.n in
+    let e = rw (c.pulled.ensures, c.load-g.ensures) at c.store.ensures in
     record {
-      work_after = row_changed a.n a.v (pulled a.c) _ _ p.n_in_range p.work_len p.v_lt_n e;
-      after_vectors_kept = row_changed_after a.n a.v (pulled a.c) _ _ p.n_in_range p.work_len p.v_lt_n e;
+      work_after = row_changed n.count a.v (pulled a.c) _ _ n.in_range c.told-work c.requires.v_lt_n e;
+      after_vectors_kept = row_changed_after n.count a.v (pulled a.c) _ _ n.in_range c.told-work c.requires.v_lt_n e;
     }

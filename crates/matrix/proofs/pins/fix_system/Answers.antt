@@ -6,10 +6,10 @@ use Rattle.matrix.proofs.pins.fix_system.Goals as goal
 pub returns : goal.returns
 returns c =
     let a = c.args in
-    let p = c.requires in
+    let n = a.n in
     let e = c.set_fix_dof_to_rhs_vector.ensures in
     let f = c.set_fixed_bc.ensures in
     record {
-      work_after = f.work_after ∙ right_fixed a.n a.pins.now _ _ p.n_in_range p.work_len e;
-      after_vectors_kept = f.after_vectors_kept ∙ right_fixed_after a.n a.pins.now _ _ p.n_in_range p.work_len e;
+      work_after = f.work_after ∙ right_fixed n.count a.pins.now _ _ n.in_range c.told-work e;
+      after_vectors_kept = f.after_vectors_kept ∙ right_fixed_after n.count a.pins.now _ _ n.in_range c.told-work e;
     }

@@ -14,15 +14,15 @@ unfolding set_fix_dof_to_rhs_vector rows4
 fixed_rows w o pins n = table_ext n _ _ (λ i l. ap (row_unless_fixed pins (4 * i)) (sym (get_or_table n (λ k. row4 w (o + 4 * k)) i zero_row l)))
 
 pub loop-i-init : goal.loop-i-init
-loop-i-init c = (omega arith, stored_none _ _ _)
+loop-i-init c = stored_none _ _ _
 
 pub loop-i-preserved : goal.loop-i-preserved
 loop-i-preserved c =
     let l = c.loop-i in
-    let old = unstored l.invariant.1 (c.args.to + 4 * l.i) (λ j a b x y. omega arith) in
-    (omega arith, stored_more l.invariant.1 c.store4.ensures (c.row_unless_fixed.ensures ∙ ap (row_unless_fixed c.args.pins.now (4 * l.i)) (c.load4-v.ensures ∙ old)))
+    let old = unstored l.invariant (c.args.to + 4 * l.i) (λ j a b x y. omega arith) in
+    stored_more l.invariant c.store.ensures (c.row_unless_fixed.ensures ∙ ap (row_unless_fixed c.args.pins.now (4 * l.i)) (c.load-v.ensures ∙ old))
 
 pub returns : goal.returns
 returns c =
     let a = c.args in
-    stored_all c.loop-i.invariant.1 (omega arith) ∙ ap (λ (l : List Vec4). put a.work.now a.to (flat4 l)) (fixed_rows a.work.now a.to a.pins.now a.n)
+    stored_all c.loop-i.invariant (omega arith) ∙ ap (λ (l : List Vec4). put a.work.now a.to (flat4 l)) (fixed_rows a.work.now a.to a.pins.now a.n.count)

@@ -9,17 +9,17 @@ use Rattle.matrix.proofs.RowLaws.{stored_none, stored_more, unstored, stored_all
 use Rattle.matrix.proofs.slice_of_array.add_scaled_vector.Goals as goal
 
 pub loop-i-init : goal.loop-i-init
-loop-i-init c = (omega arith, stored_none _ _ _)
+loop-i-init c = stored_none _ _ _
 
 pub loop-i-preserved : goal.loop-i-preserved
 loop-i-preserved c =
     let l = c.loop-i in
-    let own = unstored l.invariant.1 (c.args.to + 4 * l.i) (λ j a b x y. omega arith) in
-    let other = unstored l.invariant.1 (c.args.from + 4 * l.i) (λ j a b x y. c.requires.apart j x (omega arith) (omega arith) (omega arith)) in
-    (omega arith, stored_more l.invariant.1 c.store4.ensures (simp (c.add.ensures, c.scale.ensures, c.load4-u.ensures, c.load4-p.ensures, own, other)))
+    let own = unstored l.invariant (c.args.to + 4 * l.i) (λ j a b x y. omega arith) in
+    let other = unstored l.invariant (c.args.from + 4 * l.i) (λ j a b x y. c.requires.apart j x (omega arith) (omega arith) (omega arith)) in
+    stored_more l.invariant c.store.ensures (simp (c.add.ensures, c.mul.ensures, c.load-u.ensures, c.load-p.ensures, own, other))
 
 pub returns : goal.returns
 unfolding add_scaled_vector rows4
 returns c =
     let a = c.args in
-    stored_all c.loop-i.invariant.1 (omega arith) ∙ ap (λ (l : List Vec4). put a.work.now a.to (flat4 l)) (sym (zip_tables (λ (x y : Vec4). vec4_add x (vec4_scale y a.alpha)) a.n _ _))
+    stored_all c.loop-i.invariant (omega arith) ∙ ap (λ (l : List Vec4). put a.work.now a.to (flat4 l)) (sym (zip_tables (λ (x y : Vec4). vec4_add x (vec4_scale y a.alpha)) a.n _ _))

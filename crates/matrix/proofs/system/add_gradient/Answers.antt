@@ -9,9 +9,8 @@ pub returns : goal.returns
 unfolding plus_gradient
 returns c =
     let a = c.args in
-    let p = c.requires in
-    let e = rw (c.add.ensures, c.load4-g.ensures) at c.store4.ensures in
+    let e = rw (c.add.ensures, c.load-g.ensures) at c.store.ensures in
     record {
-      work_after = row_changed a.n a.i (λ (x : Vec4). vec4_add x a.v) _ _ p.n_in_range p.work_len p.i_lt_n e;
-      after_vectors_kept = row_changed_after a.n a.i (λ (x : Vec4). vec4_add x a.v) _ _ p.n_in_range p.work_len p.i_lt_n e;
+      work_after = row_changed a.n.count a.i (λ (x : Vec4). vec4_add x a.v) _ _ a.n.in_range c.told-work c.requires.i_lt_n e;
+      after_vectors_kept = row_changed_after a.n.count a.i (λ (x : Vec4). vec4_add x a.v) _ _ a.n.in_range c.told-work c.requires.i_lt_n e;
     }

@@ -1,7 +1,8 @@
--- What the calls promise, put together, is the definition.
-use Rattle.std.proofs.Common.{ℕ, ◌∙◌, sym, ap}
-use Rattle.vectors.specs.Finite.{mat4_is_finite}
-use Rattle.matrix.specs.Rows.{blocks16}
+-- What the calls promise, put together, is the definition: the blocks in use are those of all rows.
+use Rattle.std.proofs.Common.{Bool, ◌&&◌, ℕ, ◌∙◌, sym, ap}
+use Rattle.vectors.specs.Finite.{is_finite, vec4_is_finite, mat4_is_finite}
+use Rattle.matrix.specs.Rows.{rows4, blocks16}
+use Rattle.matrix.specs.Area.{place_r}
 use Rattle.matrix.specs.SparseSquare.{matrix_rows}
 use Rattle.matrix.specs.System.{every, system_at, system_is_finite}
 use Rattle.matrix.proofs.RowPlaces.{all_blocks}
@@ -9,9 +10,10 @@ use Rattle.matrix.proofs.Every.{every_row}
 use Rattle.matrix.proofs.system.is_finite.Goals as goal
 
 pub returns : goal.returns
-unfolding system_is_finite system_at matrix_rows
+unfolding system_is_finite system_at matrix_rows rows4 blocks16
 returns c =
     let n = c.args.n in
     let w = c.args.work.now in
-    let e = ap (λ (k : ℕ). every mat4_is_finite (blocks16 w 0 k)) (sym (all_blocks n c.requires.n_in_range.0)) ∙ every_row mat4_is_finite w n n in
-    simp (c.blocks_are_finite.ensures, c.rows_are_finite.ensures, c.is_finite.ensures, e)
+    let e = ap (λ (k : ℕ). every mat4_is_finite (blocks16 w 0 k)) (sym (all_blocks n.count n.in_range.0)) ∙ every_row mat4_is_finite w n.count n.count in
+    rw (c.is_finite.ensures.value, c.rows_are_finite.ensures, c.rows_are_finite-2.ensures)
+    (ap (λ (b : Bool). is_finite c.args.energy && every vec4_is_finite (rows4 w place_r n.count) && b) e)

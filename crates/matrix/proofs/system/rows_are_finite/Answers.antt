@@ -1,8 +1,7 @@
 -- A turn of the loop asks one more, as the test of one more does.
-use Rattle.std.proofs.Common.{sym, arith}
-use Rattle.vectors.specs.Finite.{vec4_is_finite}
+use Rattle.std.proofs.Common.{sym}
 use Rattle.matrix.proofs.Every.{every_more}
 use Rattle.matrix.proofs.system.rows_are_finite.Goals as goal
 
 pub loop-i-preserved : goal.loop-i-preserved
-loop-i-preserved c = (omega arith, rw (c.loop-i.invariant.1, c.vec4_is_finite-all.ensures, c.load4.ensures) (sym (every_more vec4_is_finite c.loop-i.i _)))
+loop-i-preserved g c = rw (c.loop-i.invariant, c.is_finite-all.ensures, c.load.ensures, c.WIDTH.ensures) (sym (every_more g.R.Finite.finite c.loop-i.i _))

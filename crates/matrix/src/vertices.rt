@@ -1,0 +1,22 @@
+// How many vertices a strand has.
+ghost use Rattle.std.specs.Prelude.{◌≡◌, ◌≤◌, ◌↔◌, IfSome, IsSome};
+
+// From 2 to 32.
+#[derive(Clone, Copy)]
+pub struct Vertices {
+    pub count: usize,
+    ghost in_range: { (2 ≤ count) × (count ≤ 32) },
+}
+
+impl Vertices {
+    // None of any other number.
+    pub fn new(count: usize) -> Option<Vertices>
+        ensures value { IfSome result (λ n. n.count ≡ count) }
+        ensures variant { IsSome result ↔ ((2 ≤ count) × (count ≤ 32)) }
+    {
+        if (2 <= count) & (count <= 32) {
+            return Some(Vertices { count });
+        }
+        None
+    }
+}
