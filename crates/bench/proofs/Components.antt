@@ -9,7 +9,8 @@ use lib.ListN.{get_or}
 use lib.Ieee.{Float, nan}
 use Rattle.vectors.specs.declared.vec3.Vec3.{Vec3}
 use Rattle.matrix.specs.Rows.{row3}
-use Rattle.bench.specs.Update.{unless_pinned, vec3_unless_pinned}
+use Rattle.matrix.specs.Pins.{unless_pinned}
+use Rattle.bench.specs.Update.{vec3_unless_pinned}
 
 abbrev pub component : ℕ → Vec3 → Float
 component zero v = v.x
@@ -23,12 +24,12 @@ row_component l a (suc zero) h = refl
 row_component l a (suc (suc zero)) h = refl
 row_component l a (suc (suc (suc j))) h = absurd (omega arith)
 
-pub pinned_number : (b : ℕ) (old new : Float) → b ≢ 0 → unless_pinned b old new ≡ old
+pinned_number : (b : ℕ) (old new : Float) → b ≢ 0 → unless_pinned b old new ≡ old
 unfolding unless_pinned
 pinned_number zero old new h = absurd (h refl)
 pinned_number (suc b) old new h = refl
 
-pub free_number : (b : ℕ) (old new : Float) → b ≡ 0 → unless_pinned b old new ≡ new
+free_number : (b : ℕ) (old new : Float) → b ≡ 0 → unless_pinned b old new ≡ new
 unfolding unless_pinned
 free_number b old new h = rw h
 

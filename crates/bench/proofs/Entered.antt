@@ -9,16 +9,21 @@ use lib.Dec.{eqb}
 use lib.ListN.{length, get_or}
 use lib.Ieee.{Float}
 use borrow.Author.Tests.{eqb-true}
+use Rattle.std.specs.declared.result.Result.{Result}
+use Rattle.std.specs.Result.{IsErrAnd}
 use Rattle.matrix.specs.Area.{work_numbers}
 use Rattle.matrix.specs.System.{every}
+use Rattle.bench.specs.declared.refusal.Refusal.{Refusal}
 use Rattle.bench.specs.Areas.{seats, rest_numbers, drape_numbers, pin_bytes}
 use Rattle.bench.specs.Strand.{Bench, no_settings, strand_of, Left, put_all, entry_of}
 use Rattle.bench.specs.Given.{good_settings}
 use Rattle.bench.specs.Rows.{first}
 use Rattle.bench.specs.Answers.{Answer}
+use Rattle.bench.specs.Refusals.{refusal_number, told}
 use Rattle.bench.specs.Asks.{Request, Asks, Call, call_with, Lends, lends, Lent, lent_of}
 use Rattle.bench.specs.Requests.{case_at}
 use Rattle.bench.specs.Calls.{rest_long, drape_long, pins_long, lent_long, seat_rows, case_of, refusal, answer_by, leaves_by, done_of, number_of, answer_of, after_of}
+use Rattle.bench.proofs.Refusals.{number_not_0, told_on}
 use Rattle.bench.proofs.RowLaws.{held_at, second_none}
 use Rattle.bench.proofs.EntryRows.{entry_passed}
 use Rattle.bench.proofs.GoodSeats.{Between, taken_seat, taken_settings, small_seat}
@@ -39,6 +44,10 @@ module _ (c : Call) (b : Bench) where
       let d = case_of c.asks (lent_of c) b in
       let m : number_of c b ≢ 0 = λ z. n (e ∙ z) in
       (ap (refusal c.asks) e ∙ sym (answer_refused c.asks (number_of c b) d.answer m), sym (ap (λ (l : List Left). put_all l b) (leaves_refused (number_of c b) d.leaves m)))
+
+  -- refused for the reason r
+  pub call_refused : {A : Type 0} (o : Result A Refusal) (r : Refusal) → IsErrAnd o (λ x. x ≡ r) → refusal_number r ≡ number_of c b → (refusal c.asks (told o) ≡ answer_of c b) × (b ≡ after_of c b)
+  call_refused o r h e = let q = call_declined (refusal_number r) e (number_not_0 r) in (ap (refusal c.asks) (told_on o r h) ∙ q.0, q.1)
 
   pub call_done : (k : ℕ) → k ≡ number_of c b → k ≡ 0 → ((case_of c.asks (lent_of c) b).answer ≡ answer_of c b) × (put_all (case_of c.asks (lent_of c) b).leaves b ≡ after_of c b)
   unfolding done_of

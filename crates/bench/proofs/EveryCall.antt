@@ -2,7 +2,8 @@
 use mathlib.Core.Path.{◌≡◌, refl}
 use mathlib.Core.Bool.{true}
 use mathlib.Core.List.{List}
-use Prim.Native.Nat.{ℕ, zero, suc, ◌<◌}
+use Prim.Native.Nat.{ℕ, zero, suc, ◌≤◌, ◌<◌}
+use native.Mathlib.Omega.{arith}
 use lib.Dec.{leb}
 use lib.Ieee.{Float}
 use borrow.Author.Tests.{leb-true}
@@ -32,20 +33,24 @@ numbered_of (of s a) l b = numbered_one s a l b
 in_table_lem : (rs : List Row) → every in_table rs ≡ true → every (λ (r : Row). leb r.number last_number) rs ≡ true
 in_table_lem rs h = every_weaken (λ (r : Row). leb r.number last_number) in_table (λ r e. and_right (leb 1 r.number) (leb r.number last_number) e) rs h
 
-tells_by : (a : Asks) (l : Lent) (b : Bench) (n : ℕ) → Tells (answer_by a n (case_of a l b).answer) n
+number_most : (c : Call) (b : Bench) → number_of c b ≤ last_number
+unfolding done_of
+number_most c b = leb-true (number_of c b) last_number (first_such (λ k. leb k last_number) refl (case_of c.asks (lent_of c) b).rows (in_table_lem (case_of c.asks (lent_of c) b).rows (numbered_of c.asks (lent_of c) b)))
+
+tells_by : (a : Asks) (l : Lent) (b : Bench) (n : ℕ) → n ≤ last_number → Tells (answer_by a n (case_of a l b).answer) n
 unfolding case_of
-tells_by (of s a) l b zero = answer_tells a (strand_of s b)
-tells_by (of s a) l b (suc n) = refusal_tells a (suc n)
+tells_by (of s a) l b zero m = answer_tells a (strand_of s b)
+tells_by (of s a) l b (suc n) m = refusal_tells a (suc n) (omega arith) m
 
 pub every_call_answers : EveryCallAnswers
 unfolding done_of put_all
 every_call_answers c b = record {
   rows = numbered_of c.asks (lent_of c) b;
-  bound = leb-true (number_of c b) last_number (first_such (λ k. leb k last_number) refl (case_of c.asks (lent_of c) b).rows (in_table_lem (case_of c.asks (lent_of c) b).rows (numbered_of c.asks (lent_of c) b)));
+  bound = number_most c b;
   accepted = λ e. rw e;
   declined = λ n. answer_refused c.asks (number_of c b) (case_of c.asks (lent_of c) b).answer n;
   unchanged = λ n. rw (leaves_refused (number_of c b) (case_of c.asks (lent_of c) b).leaves n);
-  tells = tells_by c.asks (lent_of c) b (number_of c b);
+  tells = tells_by c.asks (lent_of c) b (number_of c b) (number_most c b);
 }
 
 -- a look and its companion have the same rows

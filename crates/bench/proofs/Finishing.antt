@@ -119,12 +119,12 @@ module _ (w d : List Float) (n : ℕ) (h : n ≤ 32) (lw : length w ≡ work_num
         )
 
 -- the velocities x are staged behind the shape, which stays
-pub record VelocitiesStaged (n : ℕ) (w v : List Float) (x : List Vec3) : Type 0 where
+pub record Behind (n : ℕ) (w v : List Float) (x : List Vec3) : Type 0 where
   pub positions_stay : rows3 v place_positions n ≡ rows3 w place_positions n
   pub shape_stays : staged_shape n v ≡ staged_shape n w
   pub there : part v place_velocities (3 * n) ≡ flat3 x
 
-pub velocities_staged : (n : ℕ) (w v : List Float) (x : List Vec3) → n ≤ 32 → length w ≡ work_numbers → length x ≡ n → v ≡ put w place_velocities (flat3 x) → VelocitiesStaged n w v x
+pub velocities_staged : (n : ℕ) (w v : List Float) (x : List Vec3) → n ≤ 32 → length w ≡ work_numbers → length x ≡ n → v ≡ put w place_velocities (flat3 x) → Behind n w v x
 unfolding staged_shape
 velocities_staged n w v x h l lx e =
     let m = length_flat3 x in

@@ -1,5 +1,6 @@
 -- The laws behind the crate's theorems.
 pub mod RowLaws
+pub mod Refusals
 pub mod EveryNumber
 pub mod Padded
 pub mod GoodSeats

@@ -21,7 +21,7 @@ use Rattle.bench.specs.declared.seats.Settings.{Settings}
 use Rattle.bench.specs.Areas.{seats, vector_part, rest_part, drape_part, pin_part}
 use Rattle.bench.specs.Strand.{Strand, with_drape, setting_numbers, on_seat}
 use Rattle.bench.specs.Given.{good_count, not_negative, good_settings}
-use Rattle.bench.specs.Rows.{first, in_table}
+use Rattle.bench.specs.Rows.{first, last_number, in_table}
 use Rattle.bench.specs.Step.{Time, begin_rows, finish_rows, update_of}
 use Rattle.bench.specs.Answers.{step_numbers, finite_answer, Tells}
 use Rattle.bench.specs.Asks.{Load, Request, load, unload, pin, look, companion, step, refusal_at}
@@ -30,6 +30,7 @@ use Rattle.bench.specs.PinStory.{Event, pinned, events_at, Story, empty, laid, n
 use Rattle.bench.specs.Accepted.{StepLeaves}
 use Rattle.bench.proofs.Padded.{length_padded}
 use Rattle.bench.proofs.EveryNumber.{every_append, every_part, every_weaken}
+use Rattle.bench.proofs.Refusals.{number_of_reason}
 use Rattle.bench.proofs.RowLaws.{demands_of, passed, holds, second_none}
 use Rattle.bench.proofs.LoadRows.{Sized, sized}
 use Rattle.bench.proofs.SeatParts.{Fine, count_small, left_at, Sit, none, one, finite_zero, finite_zeros, finite_unset}
@@ -173,14 +174,14 @@ step_next p d x f a = record {
 }
 
 -- ---- an answer tells the number
-pub refusal_tells : (a : Request) (k : ℕ) → Tells (refusal_at a k) k
+pub refusal_tells : (a : Request) (k : ℕ) → 1 ≤ k → k ≤ last_number → Tells (refusal_at a k) k
 unfolding step_numbers
-refusal_tells (load g) k = refl
-refusal_tells unload k = refl
-refusal_tells (pin v c b) k = refl
-refusal_tells (look j) k = tt
-refusal_tells (companion j) k = refl
-refusal_tells (step p d) k = refl
+refusal_tells (load g) k l m = refl
+refusal_tells unload k l m = refl
+refusal_tells (pin v c b) k l m = refl
+refusal_tells (look j) k l m = tt
+refusal_tells (companion j) k l m = refl
+refusal_tells (step p d) k l m = number_of_reason k l m
 
 pub answer_tells : (a : Request) (t : Strand) → Tells (case_at a t).answer 0
 unfolding case_at step_numbers

@@ -13,6 +13,7 @@ use lib.Seq.{get_or-set_same, get_or-set_other}
 use lib.Ieee.{nan, of_bits}
 use borrow.Author.Tests.{eqb-true, leb-true, eq-eqb, ne_eqb}
 use Rattle.bench.specs.declared.seats.Settings.{Settings}
+use Rattle.std.specs.Float.{float_is_finite}
 use Rattle.vectors.specs.Number.{plus_zero}
 use Rattle.vectors.specs.Finite.{is_finite}
 use Rattle.matrix.specs.System.{every}
@@ -146,7 +147,7 @@ strand_all b g (one {l = l} h f q) t k =
 
 -- ---- the new bench
 pub finite_zero : is_finite plus_zero ≡ true
-unfolding is_finite of_bits
+unfolding float_is_finite of_bits
 finite_zero = refl
 
 pub finite_zeros : (n : ℕ) → every is_finite (replicate n plus_zero) ≡ true

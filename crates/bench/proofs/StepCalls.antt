@@ -13,19 +13,24 @@ use Rattle.matrix.specs.Parts.{part, put}
 use Rattle.matrix.specs.Area.{work_numbers}
 use Rattle.matrix.specs.System.{every}
 use Rattle.matrix.proofs.Parts.{put_part}
+use Rattle.std.specs.declared.result.Result.{Result}
+use Rattle.std.specs.Result.{IsErrAnd}
 use Rattle.bench.specs.declared.answers.Pick.{Pick}
 use Rattle.bench.specs.declared.answers.StepAnswer.{StepAnswer}
 use Rattle.bench.specs.declared.answers.StepAnswer.TheVariants.{Accepted, Refused}
+use Rattle.bench.specs.declared.refusal.Refusal.{Refusal}
 use Rattle.bench.specs.Areas.{seats, rest_numbers, drape_numbers, pin_bytes, rest_part, drape_part, pin_part}
 use Rattle.bench.specs.Strand.{Strand, Bench, with_drape, entry_of, strand_of, put_strand, left, put_all, bench_of, no_settings}
 use Rattle.bench.specs.Given.{is_empty}
 use Rattle.bench.specs.Rows.{Row, any, first, leaves_work, LeavesWork, in_table}
 use Rattle.bench.specs.Answers.{reported, step_numbers, numbers_told}
+use Rattle.bench.specs.Refusals.{refusal_number, refusal_of, answered}
 use Rattle.bench.specs.Step.{Time, pick_fits, begin_rows, finish_rows, Update, update_of, report_by, step_answer, drape_by, step_drape}
 use Rattle.bench.specs.Asks.{step, of, Call, call_with, lends, lent_of}
 use Rattle.bench.specs.Requests.{asked_rows, case_at}
 use Rattle.bench.specs.Calls.{lent_long, seat_rows, case_of, answer_by, leaves_by, done_of, number_of, answer_of, after_of}
 use Rattle.bench.proofs.RowLaws.{demands_of, first_such, holds, first_before, first_behind}
+use Rattle.bench.proofs.Refusals.{number_not_0, reason_of_number, answered_on}
 use Rattle.bench.proofs.EntryRows.{entry_passed}
 use Rattle.bench.proofs.GoodSeats.{taken_seat}
 use Rattle.bench.proofs.Entered.{answer_refused, leaves_refused, areas}
@@ -81,16 +86,19 @@ module _ (w : List Float) (s : ℕ) (p : Pick) (d : Time) (b : Bench) where
   unfolding numbers_told
   promised r x v y e f g = (e, (ap numbers_told e, (f, g)))
 
-  -- ---- refused before its strand is looked at
-  pub step_refused : (k : ℕ) → k ≡ first asked → k ≢ 0 → (v : List Float) → Promised (Refused k) b.drape v v
+  -- ---- refused before its strand is looked at, for the reason r
+  refused_with : (r : Refusal) → refusal_number r ≡ first asked → (v : List Float) → Promised (Refused r) b.drape v v
   unfolding done_of put_all
-  step_refused k e h v =
-      let q : number_of this b ≡ k = number_is ∙ first_before asked u.rows (λ z. h (e ∙ z)) ∙ sym e in
-      let n : number_of this b ≢ 0 = λ z. h (sym q ∙ z) in
-      promised (Refused k) b.drape v v
-      (sym (answer_refused (of s (step p d)) (number_of this b) _ n ∙ ap (λ (j : ℕ). reported (Refused j)) q))
+  refused_with r e v =
+      let q : number_of this b ≡ refusal_number r = number_is ∙ first_before asked u.rows (λ z. number_not_0 r (e ∙ z)) ∙ sym e in
+      let n : number_of this b ≢ 0 = λ z. number_not_0 r (sym q ∙ z) in
+      promised (Refused r) b.drape v v
+      (sym (answer_refused (of s (step p d)) (number_of this b) _ n ∙ ap (λ (j : ℕ). reported (Refused (refusal_of j))) q ∙ ap (λ (x : Refusal). reported (Refused x)) (reason_of_number r)))
       (rw (leaves_refused (number_of this b) (case_of (of s (step p d)) (lent_of this) b).leaves n))
       (λ _. refl)
+
+  pub step_refused : (o : Result StepAnswer Refusal) (r : Refusal) → IsErrAnd o (λ x. x ≡ r) → refusal_number r ≡ first asked → (v : List Float) → Promised (answered o) b.drape v v
+  step_refused o r h e v = rw (answered_on o r h) (refused_with r e v)
 
   -- ---- its strand is stepped
   pub step_done : first asked ≡ 0 → (r : StepAnswer) (x v y : List Float) → r ≡ step_answer u → x ≡ put b.drape (drape_part * s) (step_drape (part b.drape (drape_part * s) drape_part) u) → Promised r x v y

@@ -3,6 +3,7 @@ use Rattle.std.specs.Prelude.{◌≡◌, Bool, true, ◌&&◌, List, ℕ, Float}
 use Rattle.vectors.specs.Number.{plus_zero}
 use Rattle.vectors.specs.Finite.{is_finite}
 use Rattle.matrix.specs.System.{every}
+use Rattle.bench.specs.Refusals.{refusal_number}
 use Rattle.bench.specs.declared.answers.StepAnswer.{StepAnswer}
 use Rattle.bench.specs.declared.answers.StepAnswer.TheVariants.{Accepted, Refused}
 
@@ -28,7 +29,7 @@ number_alone k = record { number = k; energy = plus_zero; count = 0; ratio = plu
 -- "a definition tells you this paper's number and values for each of its cases"
 unfoldable pub step_numbers : StepAnswer → StepNumbers
 step_numbers (Accepted e x k) = record { number = 0; energy = e; count = k; ratio = x }
-step_numbers (Refused k) = number_alone k
+step_numbers (Refused r) = number_alone (refusal_number r)
 
 -- The same of any answer: one that is no step's has its number alone, and a look's has none.
 unfoldable pub numbers_told : Answer → StepNumbers

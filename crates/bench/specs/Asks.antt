@@ -5,6 +5,7 @@ use Rattle.bench.specs.declared.answers.Pick.{Pick}
 use Rattle.bench.specs.declared.answers.StepAnswer.TheVariants.{Refused}
 use Rattle.bench.specs.declared.seats.Settings.{Settings}
 use Rattle.bench.specs.Areas.{seats}
+use Rattle.bench.specs.Refusals.{refusal_of}
 use Rattle.bench.specs.Answers.{Answer, said, handed, reported}
 use Rattle.bench.specs.Step.{Time}
 
@@ -40,7 +41,7 @@ refusal_at unload k = said k
 refusal_at (pin v c x) k = said k
 refusal_at (look j) k = handed []
 refusal_at (companion j) k = said k
-refusal_at (step p d) k = reported (Refused k)
+refusal_at (step p d) k = reported (Refused (refusal_of k))
 
 -- What is asked of the bench: a request to a seat.
 pub data Asks : Type 0 where

@@ -1,6 +1,7 @@
 -- What the crate's contracts cite, its theorems, and samples.
 pub mod Areas
 pub mod Rows
+pub mod Refusals
 pub mod Strand
 pub mod Given
 pub mod Update

@@ -7,8 +7,9 @@ use Rattle.vectors.specs.Finite.{is_finite, vec3_is_finite, vec4_is_finite}
 use Rattle.vectors.specs.declared.vec3.Vec3.{Vec3}
 use Rattle.matrix.specs.Parts.{part, put, table}
 use Rattle.matrix.specs.Rows.{rows3, flat3}
-use Rattle.matrix.specs.System.{System, system_at, every, system_is_finite}
-use Rattle.matrix.specs.HairSystem.{Shape, shape, staged_shape, vec3_at, hair_energy, hair_system}
+use Rattle.matrix.specs.Area as area
+use Rattle.matrix.specs.System.{System, every, system_is_finite}
+use Rattle.matrix.specs.HairSystem.{Shape, shape, vec3_at, hair_energy, hair_system}
 use Rattle.matrix.specs.Loads.{with_pick, with_inertia}
 use Rattle.matrix.specs.Fixed.{with_pins}
 use Rattle.matrix.specs.ConjugateGradient.{Outcome, conjugate_gradient}
@@ -21,6 +22,7 @@ use Rattle.bench.specs.Areas.{place_positions, place_frames, place_velocities, p
 use Rattle.bench.specs.Strand.{Strand}
 use Rattle.bench.specs.Given.{edges_fit}
 use Rattle.bench.specs.Rows.{Row, unless, first}
+use Rattle.bench.specs.Refusals.{refusal_of}
 use Rattle.bench.specs.Update.{unless_pinned, vec3_unless_pinned, orthonormalize_framex_for_hair, update_solution_hair, turns_fit}
 
 -- A step's kind: static, or dynamic over the time dt.
@@ -203,7 +205,7 @@ update_of t pick time =
 -- What it answers: energy, ratio and count where it is accepted.
 abbrev pub report_by : ℕ → Float → Float → ℕ → StepAnswer
 report_by zero energy ratio count = Accepted energy ratio count
-report_by (suc k) energy ratio count = Refused (suc k)
+report_by (suc k) energy ratio count = Refused (refusal_of (suc k))
 
 -- The drape after it, where it was old and the step would leave new.
 abbrev pub drape_by : ℕ → List Float → List Float → List Float
@@ -216,9 +218,7 @@ step_answer u = report_by (first u.rows) u.energy u.ratio u.count
 abbrev pub step_drape : List Float → Update → List Float
 step_drape old u = drape_by (first u.rows) old u.drape
 
--- A step has begun with b and the number k. Where it goes on, e is b's energy and the system in the work area w is b's; b's shape stands in w either way.
-pub record Begins (n : ℕ) (b : Begun) (k : ℕ) (e : Float) (w : List Float) : Type 0 where
-  pub number : k ≡ first (begin_rows n b)
-  pub energy_is : k ≡ 0 → e ≡ b.energy
-  pub system_is : k ≡ 0 → system_at n w ≡ b.system
-  pub shape_is : staged_shape n w ≡ b.staged
+-- The velocities that the drape d gets stand in the work area w, where a step changes them; w's staged positions are the working copy.
+abbrev pub VelocitiesStaged : Time → ℕ → List ℕ → List Float → List Float → Type 0
+VelocitiesStaged still n pins d w = Unit
+VelocitiesStaged (over dt) n pins d w = part w area.place_velocities (3 * n) ≡ flat3 (velocities_after dt n pins d (rows3 w area.place_positions n))

@@ -1,5 +1,5 @@
 -- How a strand's shape moves: rod3_darboux.rs, `orthonormalize_framex_for_hair`, lines 724 to 740, and `update_solution_hair`, lines 835 to 876.
-use Rattle.std.specs.Prelude.{Bool, not, cond, ◌&&◌, List, ℕ, zero, suc, ◌+◌, ◌-◌, ◌*◌, eqb, ltb, get_or, Float}
+use Rattle.std.specs.Prelude.{Bool, not, cond, ◌&&◌, List, ℕ, ◌+◌, ◌-◌, ◌*◌, eqb, ltb, get_or, Float}
 use Rattle.std.specs.Float.{binary64}
 use Rattle.std.specs.Float.Ieee.{of_bits, neg, lt}
 use Rattle.vectors.specs.Number.{◌⊖◌}
@@ -10,13 +10,13 @@ use Rattle.elements.specs.Turned.{updated_rod_frame}
 use Rattle.elements.specs.declared.rod3_darboux.turned.TurnedFrame.{TurnedFrame}
 use Rattle.matrix.specs.Parts.{table}
 use Rattle.matrix.specs.Rows.{zero_row}
+use Rattle.matrix.specs.Pins as pins
 use Rattle.matrix.specs.System.{every}
 use Rattle.matrix.specs.HairSystem.{Shape, shape, vec3_at}
 
 -- Document 01, "The areas": nonzero is pinned. The old number is kept where the pin is so.
-unfoldable pub unless_pinned : ℕ → Float → Float → Float
-unless_pinned zero old new = new
-unless_pinned (suc b) old new = old
+abbrev pub unless_pinned : ℕ → Float → Float → Float
+unless_pinned = pins.unless_pinned
 
 -- Of the three components of the vertex whose pins begin at o.
 unfoldable pub vec3_unless_pinned : List ℕ → ℕ → Vec3 → Vec3 → Vec3

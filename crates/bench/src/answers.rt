@@ -1,4 +1,5 @@
 // What a step is asked and what it answers.
+use crate::refusal::Refusal;
 use vectors::vec3::Vec3;
 
 // A vertex that is pulled to a goal, or none.
@@ -8,7 +9,7 @@ pub enum Pick {
     At(usize, Vec3),
 }
 
-// A step's answer: accepted with its numbers, or the number that it is refused with.
+// A step's answer: accepted with its numbers, or why it is refused.
 #[derive(Clone, Copy)]
 pub enum StepAnswer {
     Accepted {
@@ -16,5 +17,5 @@ pub enum StepAnswer {
         ratio: f64,
         count: usize,
     },
-    Refused(u8),
+    Refused(Refusal),
 }

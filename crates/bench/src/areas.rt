@@ -27,3 +27,9 @@ pub(crate) const FRAMES: usize = 96;
 pub(crate) const VELOCITIES: usize = 192;
 
 pub(crate) const WORKING_COPY: usize = 288;
+
+pub type RestPart = [f64; REST_PART];
+
+pub type DrapePart = [f64; DRAPE_PART];
+
+pub type PinPart = [u8; PIN_PART];

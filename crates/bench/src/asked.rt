@@ -1,17 +1,20 @@
 // What a step is asked before it begins.
-ghost use Rattle.std.specs.Prelude.{◌≡◌, [], ◌∷◌, ◌++◌};
+ghost use Rattle.std.specs.Prelude.{◌≡◌, [], ◌∷◌, ◌++◌, true, get_or, IfOk};
 ghost use Rattle.bench.specs.Strand.{strand_of, bench_of};
 ghost use Rattle.bench.specs.Rows.{first};
-ghost use Rattle.bench.specs.Step.{Time, over, pick_fits, goal_fits, time_fits};
+ghost use Rattle.bench.specs.Refusals.{told};
+ghost use Rattle.bench.specs.Step.{Time, pick_fits, goal_fits, time_fits};
 ghost use Rattle.bench.specs.Asks.{step, lends, call_with, lent_of};
 ghost use Rattle.bench.specs.Requests.{asked_rows};
 ghost use Rattle.bench.specs.Calls.{lent_long, seat_rows};
 
 use crate::answers::Pick;
+use crate::picked::Picked;
+use crate::refusal::Refusal;
 use crate::seats::Record;
 use crate::{areas, entry};
 use matrix::area;
-use vectors::finite;
+use vectors::finite::Finite;
 
 // Whether the pick is of one of the n vertices, if there is one.
 #[tactic(auto, unfolding(crate::specs::Step::pick_fits))]
@@ -31,21 +34,13 @@ fn goal_fits(pick: Pick) -> bool
 {
     match pick {
         Pick::Nothing => true,
-        Pick::At(_, goal) => finite::vec3_is_finite(goal),
+        Pick::At(_, goal) => goal.is_finite(),
     }
 }
 
-// Whether a time is finite and above 0.
-#[tactic(auto, unfolding(crate::specs::Step::time_fits))]
-pub(crate) fn time_fits(dt: f64) -> bool
-    ensures { result ≡ time_fits (over dt) }
-{
-    finite::is_finite(dt) & (0.0 < dt)
-}
-
-// The number that a step is refused with before it begins, 0 for none; `fits` is whether its time
-// passes 6.
-pub(crate) fn step_number(
+// What a step is refused with before it begins, else the strand's vertices with the pick; `fits` is whether
+// its time passes 6.
+pub(crate) fn asked(
     seats: Record,
     rest: &[f64],
     drape: &[f64],
@@ -54,23 +49,21 @@ pub(crate) fn step_number(
     seat: usize,
     pick: Pick,
     fits: bool,
-) -> u8
-    ensures { (time : Time) → fits ≡ time_fits time → result ≡ first (seat_rows (lent_long (lends (step pick time)) (lent_of (call_with work.now seat (step pick time))) (bench_of seats rest.now drape.now pins.now)) (seat ∷ []) seats ++ asked_rows (strand_of seat (bench_of seats rest.now drape.now pins.now)) pick time) }
+) -> Result<Picked, Refusal>
+    ensures number { (time : Time) → fits ≡ time_fits time → told result ≡ first (seat_rows (lent_long (lends (step pick time)) (lent_of (call_with work.now seat (step pick time))) (bench_of seats rest.now drape.now pins.now)) (seat ∷ []) seats ++ asked_rows (strand_of seat (bench_of seats rest.now drape.now pins.now)) pick time) }
+    ensures count { IfOk result (λ p. p.n.count ≡ get_or seats.counts seat 0) }
+    ensures pick { IfOk result (λ p. p.pick ≡ pick) }
 {
     let long = (rest.len() == areas::REST)
         & (drape.len() == areas::DRAPE)
         & (pins.len() == areas::PINS)
         & (work.len() == area::NUMBERS);
-    let k = entry::taken_number(seats, long, seat);
-    if k != 0 {
-        return k;
-    }
-    let counts = seats.counts;
-    if !pick_fits(counts[seat], pick) {
-        return 5;
+    let n = entry::taken(seats, long, seat)?;
+    if !pick_fits(n.count, pick) {
+        return Err(Refusal::Index);
     }
     if !(goal_fits(pick) & fits) {
-        return 6;
+        return Err(Refusal::Number);
     }
-    0
+    Ok(Picked { n, pick })
 }

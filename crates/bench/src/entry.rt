@@ -1,52 +1,45 @@
 // What every call on a seat is asked first: whether the areas that it is lent and the record are good,
 // whether there is such a seat, and whether it is taken. `long` is whether the areas have their lengths.
-ghost use Rattle.std.specs.Prelude.{◌≡◌, [], ◌∷◌, ◌++◌, get_or};
+ghost use Rattle.std.specs.Prelude.{◌≡◌, [], ◌∷◌, ◌++◌, get_or, IfOk};
 ghost use Rattle.bench.specs.Rows.{first};
+ghost use Rattle.bench.specs.Refusals.{told};
 ghost use Rattle.bench.specs.Requests.{vacant, taken};
 ghost use Rattle.bench.specs.Calls.{seat_rows};
 
+use crate::refusal::Refusal;
 use crate::seats::Record;
 use crate::{areas, given};
+use matrix::vertices::Vertices;
 
-// 1 or 2, in this order; 0 for none.
-fn seat_number(seats: Record, long: bool, seat: usize) -> u8
-    ensures { result ≡ first (seat_rows long (seat ∷ []) seats) }
+// 1 or 2, in this order.
+fn known(seats: Record, long: bool, seat: usize) -> Result<(), Refusal>
+    ensures { told result ≡ first (seat_rows long (seat ∷ []) seats) }
 {
     if !long | !given::good_record(seats) {
-        return 1;
+        return Err(Refusal::Lent);
     }
     if areas::SEATS <= seat {
-        return 2;
+        return Err(Refusal::Seat);
     }
-    0
+    Ok(())
 }
 
 // 1, 2 or 3, of a call that wants an empty seat.
-pub(crate) fn vacant_number(seats: Record, long: bool, seat: usize) -> u8
-    ensures { result ≡ first (seat_rows long (seat ∷ []) seats ++ (vacant (get_or seats.counts seat 0) ∷ [])) }
+pub(crate) fn vacant(seats: Record, long: bool, seat: usize) -> Result<(), Refusal>
+    ensures { told result ≡ first (seat_rows long (seat ∷ []) seats ++ (vacant (get_or seats.counts seat 0) ∷ [])) }
 {
-    let k = seat_number(seats, long, seat);
-    if k != 0 {
-        return k;
+    known(seats, long, seat)?;
+    if seats.counts[seat] != 0 {
+        return Err(Refusal::Occupancy);
     }
-    let counts = seats.counts;
-    if counts[seat] != 0 {
-        return 3;
-    }
-    0
+    Ok(())
 }
 
-// 1, 2 or 3, of a call that wants a strand.
-pub(crate) fn taken_number(seats: Record, long: bool, seat: usize) -> u8
-    ensures { result ≡ first (seat_rows long (seat ∷ []) seats ++ (taken (get_or seats.counts seat 0) ∷ [])) }
+// 1, 2 or 3, of a call that wants a strand; else how many vertices that has.
+pub(crate) fn taken(seats: Record, long: bool, seat: usize) -> Result<Vertices, Refusal>
+    ensures number { told result ≡ first (seat_rows long (seat ∷ []) seats ++ (taken (get_or seats.counts seat 0) ∷ [])) }
+    ensures count { IfOk result (λ n. n.count ≡ get_or seats.counts seat 0) }
 {
-    let k = seat_number(seats, long, seat);
-    if k != 0 {
-        return k;
-    }
-    let counts = seats.counts;
-    if counts[seat] == 0 {
-        return 3;
-    }
-    0
+    known(seats, long, seat)?;
+    Vertices::new(seats.counts[seat]).ok_or(Refusal::Occupancy)
 }

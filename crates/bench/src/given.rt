@@ -7,22 +7,24 @@ ghost use Rattle.matrix.specs.System.{every};
 ghost use Rattle.bench.specs.Strand.{seat_entry};
 ghost use Rattle.bench.specs.Given.{good_count, not_negative, good_settings, good_seat, good_record, edges_fit};
 
+use crate::areas;
 use crate::seats::{Record, Settings};
-use matrix::rows;
-use vectors::{edge3, finite};
+use matrix::rows::Row;
+use vectors::edge3;
+use vectors::vec3::Vec3;
 
 // From 2 to 32 vertices.
 pub fn good_count(n: usize) -> bool
     ensures { result ≡ good_count n }
 {
-    (2 <= n) & (n <= 32)
+    (2..=32).contains(&n)
 }
 
 // Finite and not below 0; -0 is not below 0.
 fn not_negative(x: f64) -> bool
     ensures { result ≡ not_negative x }
 {
-    finite::is_finite(x) & !(x < 0.0)
+    x.is_finite() & !(x < 0.0)
 }
 
 #[tactic(auto, unfolding(crate::specs::Given::good_settings, matrix::specs::System::every))]
@@ -49,12 +51,11 @@ fn good_seat(n: usize, g: Settings) -> bool
 pub fn good_record(seats: Record) -> bool
     ensures { result ≡ good_record seats }
 {
-    let c = seats.counts;
-    let g = seats.settings;
-    good_seat(c[0], g[0])
-        & (good_seat(c[1], g[1])
-            & (good_seat(c[2], g[2])
-                & (good_seat(c[3], g[3]) & (good_seat(c[4], g[4]) & good_seat(c[5], g[5])))))
+    let mut all = true;
+    for s in 0..areas::SEATS {
+        all &= good_seat(seats.counts[s], seats.settings[s]);
+    }
+    all
 }
 
 // Whether every number of the list is finite.
@@ -62,13 +63,7 @@ pub fn good_record(seats: Record) -> bool
 pub(crate) fn numbers_are_finite(list: &[f64]) -> bool
     ensures { result ≡ every is_finite list.now }
 {
-    let mut all = true;
-    let mut i = 0;
-    while i < list.len() {
-        all = all & finite::is_finite(list[i]);
-        i += 1;
-    }
-    all
+    list.iter().all(|x| x.is_finite())
 }
 
 // Whether the edge from vertex i has a length to work with.
@@ -76,8 +71,8 @@ fn edge_fits(positions: &[f64], i: usize) -> bool
     requires { 3 * i + 6 ≤ length positions.now }
     ensures { result ≡ (edge_length (row3 positions.now (3 * i)) (row3 positions.now (3 * i + 3))).acceptable }
 {
-    let p0 = rows::load3(positions, 3 * i);
-    let p1 = rows::load3(positions, 3 * i + 3);
+    let p0 = Vec3::load(positions, 3 * i);
+    let p1 = Vec3::load(positions, 3 * i + 3);
     edge3::is_acceptable(p0, p1)
 }
 
@@ -89,10 +84,8 @@ pub(crate) fn edges_fit(positions: &[f64], n: usize) -> bool
     ensures { result ≡ edges_fit n (rows3 positions.now 0 n) }
 {
     let mut all = true;
-    let mut i = 0;
-    while i + 1 < n {
-        all = all & edge_fits(positions, i);
-        i += 1;
+    for i in 0..n - 1 {
+        all &= edge_fits(positions, i);
     }
     all
 }

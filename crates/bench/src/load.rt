@@ -5,20 +5,19 @@ ghost use Rattle.matrix.specs.System.{every};
 ghost use Rattle.bench.specs.Strand.{bench_of};
 ghost use Rattle.bench.specs.Given.{good_count, good_settings};
 ghost use Rattle.bench.specs.Answers.{said};
+ghost use Rattle.bench.specs.Refusals.{told, record_after};
 ghost use Rattle.bench.specs.Asks.{load_of, load, call};
 ghost use Rattle.bench.specs.Calls.{number_of, answer_of, after_of};
 
-use crate::seats::{Changed, Record, Settings};
+use crate::refusal::Refusal;
+use crate::seats::{Record, Settings};
 use crate::{areas, entry, given, seats, strands};
 
 // Whether n is a strand's number of vertices and both lists have three numbers for each.
 fn lists_fit(n: usize, positions: usize, frames: usize) -> bool
     ensures { result ≡ (good_count n && eqb positions (3 * n) && eqb frames (3 * n)) }
 {
-    if !given::good_count(n) {
-        return false;
-    }
-    (positions == 3 * n) & (frames == 3 * n)
+    given::good_count(n) && (positions == 3 * n) & (frames == 3 * n)
 }
 
 // Whether all that is given is finite, and no setting below 0.
@@ -30,8 +29,8 @@ fn given_fit(positions: &[f64], frames: &[f64], settings: Settings) -> bool
         & given::good_settings(settings)
 }
 
-// The number that it is refused with, 0 for none.
-fn load_number(
+// Whether it is refused, and why.
+fn asked(
     seats: Record,
     rest: &[f64],
     drape: &[f64],
@@ -41,26 +40,23 @@ fn load_number(
     settings: Settings,
     positions: &[f64],
     frames: &[f64],
-) -> u8
-    ensures { result ≡ number_of (call seat (load (load_of n settings positions.now frames.now))) (bench_of seats rest.now drape.now pins.now) }
+) -> Result<(), Refusal>
+    ensures { told result ≡ number_of (call seat (load (load_of n settings positions.now frames.now))) (bench_of seats rest.now drape.now pins.now) }
 {
     let long = (rest.len() == areas::REST)
         & (drape.len() == areas::DRAPE)
         & (pins.len() == areas::PINS);
-    let k = entry::vacant_number(seats, long, seat);
-    if k != 0 {
-        return k;
-    }
+    entry::vacant(seats, long, seat)?;
     if !lists_fit(n, positions.len(), frames.len()) {
-        return 4;
+        return Err(Refusal::Lists);
     }
     if !given_fit(positions, frames, settings) {
-        return 6;
+        return Err(Refusal::Number);
     }
     if !given::edges_fit(positions, n) {
-        return 7;
+        return Err(Refusal::Edge);
     }
-    0
+    Ok(())
 }
 
 // The whole of the seat's parts is written; the strand's working copy is its rest shape, too.
@@ -74,29 +70,15 @@ pub fn load_value(
     settings: Settings,
     positions: &[f64],
     frames: &[f64],
-) -> Changed
-    ensures answer { said result.refusal ≡ answer_of (call seat (load (load_of n settings positions.now frames.now))) (bench_of seats rest.old drape.old pins.old) }
-    ensures after { bench_of result.seats rest.new drape.new pins.new ≡ after_of (call seat (load (load_of n settings positions.now frames.now))) (bench_of seats rest.old drape.old pins.old) }
+) -> Result<Record, Refusal>
+    ensures answer { said (told result) ≡ answer_of (call seat (load (load_of n settings positions.now frames.now))) (bench_of seats rest.old drape.old pins.old) }
+    ensures after { bench_of (record_after seats result) rest.new drape.new pins.new ≡ after_of (call seat (load (load_of n settings positions.now frames.now))) (bench_of seats rest.old drape.old pins.old) }
 {
-    let k = load_number(
-        seats,
-        &rest[..],
-        &drape[..],
-        &pins[..],
-        seat,
-        n,
-        settings,
-        positions,
-        frames,
-    );
-    if k != 0 {
-        return Changed { seats, refusal: k };
-    }
+    asked(
+        seats, rest, drape, pins, seat, n, settings, positions, frames,
+    )?;
     strands::lay(rest, drape, pins, seat, positions, frames);
-    Changed {
-        seats: seats::seated(seats, seat, n, settings),
-        refusal: 0,
-    }
+    Ok(seats::seated(seats, seat, n, settings))
 }
 
 // The same, with the record where it stands.
@@ -110,13 +92,12 @@ pub fn load(
     settings: Settings,
     positions: &[f64],
     frames: &[f64],
-) -> u8
-    ensures answer { said result ≡ answer_of (call seat (load (load_of n settings positions.now frames.now))) (bench_of seats.old rest.old drape.old pins.old) }
+) -> Result<(), Refusal>
+    ensures answer { said (told result) ≡ answer_of (call seat (load (load_of n settings positions.now frames.now))) (bench_of seats.old rest.old drape.old pins.old) }
     ensures after { bench_of seats.new rest.new drape.new pins.new ≡ after_of (call seat (load (load_of n settings positions.now frames.now))) (bench_of seats.old rest.old drape.old pins.old) }
 {
-    let out = load_value(
+    *seats = load_value(
         *seats, rest, drape, pins, seat, n, settings, positions, frames,
-    );
-    *seats = out.seats;
-    out.refusal
+    )?;
+    Ok(())
 }

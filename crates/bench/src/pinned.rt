@@ -1,25 +1,21 @@
-// What a pin keeps: any byte but 0 holds the number that it stands for.
-ghost use Rattle.std.specs.Prelude.{◌≡◌, ◌+◌, ◌≤◌, length};
-ghost use Rattle.bench.specs.Update.{unless_pinned, vec3_unless_pinned};
+// The three numbers of a vertex, each of which its pin keeps.
+ghost use Rattle.std.specs.Prelude.{◌≡◌, ◌*◌, ◌<◌};
+ghost use Rattle.bench.specs.Update.{vec3_unless_pinned};
 
+use crate::areas::PinPart;
+use matrix::pins;
 use vectors::vec3::Vec3;
 
-// The old number where the byte pins, else the new one.
-pub(crate) fn unless_pinned(pin: u8, old: f64, new: f64) -> f64
-    ensures { result ≡ unless_pinned pin old new }
-{
-    if pin == 0 { new } else { old }
-}
-
-// The same of the three numbers whose bytes begin at `at`.
+// The old numbers of vertex i where their bytes pin, else the new ones.
 #[tactic(auto, unfolding(crate::specs::Update::vec3_unless_pinned))]
-pub(crate) fn vec3_unless_pinned(pins: &[u8], at: usize, old: Vec3, new: Vec3) -> Vec3
-    requires { at + 3 ≤ length pins.now }
-    ensures { result ≡ vec3_unless_pinned pins.now at old new }
+pub(crate) fn vec3_unless_pinned(pins: &PinPart, i: usize, old: Vec3, new: Vec3) -> Vec3
+    requires { i < 32 }
+    ensures { result ≡ vec3_unless_pinned pins.now (4 * i) old new }
 {
+    let at = 4 * i;
     Vec3 {
-        x: unless_pinned(pins[at], old.x, new.x),
-        y: unless_pinned(pins[at + 1], old.y, new.y),
-        z: unless_pinned(pins[at + 2], old.z, new.z),
+        x: pins::unless_pinned(pins[at], old.x, new.x),
+        y: pins::unless_pinned(pins[at + 1], old.y, new.y),
+        z: pins::unless_pinned(pins[at + 2], old.z, new.z),
     }
 }

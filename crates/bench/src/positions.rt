@@ -1,57 +1,57 @@
-// The positions that a dynamic step leaves: the working copy, but the old ones where they are
-// pinned.
-ghost use Rattle.std.specs.Prelude.{◌≡◌, ◌+◌, ◌*◌, ◌≤◌, length};
+// The positions that a dynamic step leaves: the working copy, which is the staged positions, but the old
+// ones where they are pinned.
+ghost use Rattle.std.specs.Prelude.{◌≡◌, ◌+◌, ◌*◌, ◌<◌};
 ghost use Rattle.vectors.specs.Finite.{is_finite};
 ghost use Rattle.matrix.specs.Parts.{put};
-ghost use Rattle.matrix.specs.Rows.{rows3, flat3};
+ghost use Rattle.matrix.specs.Rows.{row3, rows3, flat3};
 ghost use Rattle.matrix.specs.System.{every};
-ghost use Rattle.bench.specs.Areas.{drape_part, place_positions};
+ghost use Rattle.matrix.specs.Area as area;
+ghost use Rattle.bench.specs.Areas.{place_positions};
+ghost use Rattle.bench.specs.Update.{vec3_unless_pinned};
 ghost use Rattle.bench.specs.Step.{positions_after};
 
+use crate::areas::{DrapePart, PinPart};
 use crate::pinned;
-use matrix::rows;
-use vectors::finite;
+use matrix::area;
+use matrix::area::Work;
+use matrix::rows::Row;
+use matrix::vertices::Vertices;
+use vectors::finite::Finite;
+use vectors::vec3::Vec3;
 
-// Whether the positions after the step are finite; the working copy of n vertices stands at `copy`.
+// The position of vertex i after the step.
+fn position_after(work: &Work, drape: &DrapePart, pins: &PinPart, i: usize) -> Vec3
+    requires { i < 32 }
+    ensures { result ≡ vec3_unless_pinned pins.now (4 * i) (row3 drape.now (3 * i)) (row3 work.now (area.place_positions + 3 * i)) }
+{
+    let p = Vec3::load(drape, 3 * i);
+    let c = Vec3::load(work, area::POSITIONS + 3 * i);
+    pinned::vec3_unless_pinned(pins, i, p, c)
+}
+
+// Whether the positions after the step are finite.
 #[tactic(auto, unfolding(matrix::specs::System::every, matrix::specs::Parts::table, crate::specs::Step::positions_after))]
 pub(crate) fn positions_are_finite(
-    work: &[f64],
-    copy: usize,
-    drape: &[f64],
-    pins: &[u8],
-    n: usize,
+    work: &Work,
+    drape: &DrapePart,
+    pins: &PinPart,
+    n: Vertices,
 ) -> bool
-    requires n_bound { n ≤ 32 }
-    requires copy_in_work { copy + 3 * n ≤ length work.now }
-    requires drape_len { length drape.now ≡ drape_part }
-    requires pins_long { 4 * n ≤ length pins.now }
-    ensures { result ≡ every is_finite (flat3 (positions_after n pins.now drape.now (rows3 work.now copy n))) }
+    ensures { result ≡ every is_finite (flat3 (positions_after n.count pins.now drape.now (rows3 work.now area.place_positions n.count))) }
 {
     let mut all = true;
-    let mut i = 0;
-    while i < n {
-        let p = rows::load3(drape, 3 * i);
-        let c = rows::load3(work, copy + 3 * i);
-        all = all & finite::vec3_is_finite(pinned::vec3_unless_pinned(pins, 4 * i, p, c));
-        i += 1;
+    for i in 0..n.count {
+        all &= position_after(work, drape, pins, i).is_finite();
     }
     all
 }
 
 // The positions after the step become those of the drape.
 #[tactic(auto, unfolding(crate::specs::Step::positions_after))]
-pub(crate) fn store_positions(drape: &mut [f64], work: &[f64], copy: usize, pins: &[u8], n: usize)
-    requires n_bound { n ≤ 32 }
-    requires copy_in_work { copy + 3 * n ≤ length work.now }
-    requires drape_len { length drape.old ≡ drape_part }
-    requires pins_long { 4 * n ≤ length pins.now }
-    ensures { drape.new ≡ put drape.old place_positions (flat3 (positions_after n pins.now drape.old (rows3 work.now copy n))) }
+pub(crate) fn store_positions(drape: &mut DrapePart, work: &Work, pins: &PinPart, n: Vertices)
+    ensures { drape.new ≡ put drape.old place_positions (flat3 (positions_after n.count pins.now drape.old (rows3 work.now area.place_positions n.count))) }
 {
-    let mut i = 0;
-    while i < n {
-        let p = rows::load3(drape, 3 * i);
-        let c = rows::load3(work, copy + 3 * i);
-        rows::store3(drape, 3 * i, pinned::vec3_unless_pinned(pins, 4 * i, p, c));
-        i += 1;
+    for i in 0..n.count {
+        position_after(work, drape, pins, i).store(drape, 3 * i);
     }
 }

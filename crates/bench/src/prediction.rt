@@ -1,12 +1,17 @@
 // The working copy that a dynamic step begins with.
-ghost use Rattle.std.specs.Prelude.{◌≡◌, ◌+◌, ◌*◌, ◌≤◌, ◌<◌, length};
+ghost use Rattle.std.specs.Prelude.{◌≡◌, ◌+◌, ◌*◌, ◌<◌};
 ghost use Rattle.matrix.specs.Parts.{put};
 ghost use Rattle.matrix.specs.Rows.{row3, flat3};
-ghost use Rattle.bench.specs.Areas.{drape_part, place_velocities, place_working_copy};
+ghost use Rattle.matrix.specs.Area.{place_positions};
+ghost use Rattle.bench.specs.Areas.{place_velocities, place_working_copy};
 ghost use Rattle.bench.specs.Step.{predicted, predicted_vec3, predicted_copy};
 
-use crate::{areas, pinned};
-use matrix::rows;
+use crate::areas;
+use crate::areas::{DrapePart, PinPart};
+use matrix::area::Work;
+use matrix::rows::Row;
+use matrix::vertices::Vertices;
+use matrix::{area, pins};
 use vectors::vec3::Vec3;
 
 // A number moved for the time dt with its velocity; a pinned one stays in the working copy.
@@ -14,19 +19,17 @@ use vectors::vec3::Vec3;
 fn predicted(dt: f64, pin: u8, position: f64, velocity: f64, copy: f64) -> f64
     ensures { result ≡ predicted dt pin position velocity copy }
 {
-    pinned::unless_pinned(pin, copy, position + dt * velocity)
+    pins::unless_pinned(pin, copy, position + dt * velocity)
 }
 
-// The three numbers of vertex i; `drape` is the seat's part.
-fn predicted_vertex(drape: &[f64], pins: &[u8], dt: f64, i: usize) -> Vec3
-    requires i_bound { i < 32 }
-    requires drape_len { length drape.now ≡ drape_part }
-    requires i_in_bounds { 4 * i + 4 ≤ length pins.now }
+// The three numbers of vertex i.
+fn predicted_vertex(drape: &DrapePart, pins: &PinPart, dt: f64, i: usize) -> Vec3
+    requires { i < 32 }
     ensures { result ≡ predicted_vec3 dt pins.now (4 * i) (row3 drape.now (3 * i)) (row3 drape.now (place_velocities + 3 * i)) (row3 drape.now (place_working_copy + 3 * i)) }
 {
-    let p = rows::load3(drape, 3 * i);
-    let v = rows::load3(drape, areas::VELOCITIES + 3 * i);
-    let c = rows::load3(drape, areas::WORKING_COPY + 3 * i);
+    let p = Vec3::load(drape, 3 * i);
+    let v = Vec3::load(drape, areas::VELOCITIES + 3 * i);
+    let c = Vec3::load(drape, areas::WORKING_COPY + 3 * i);
     let at = 4 * i;
     Vec3 {
         x: predicted(dt, pins[at], p.x, v.x, c.x),
@@ -35,19 +38,12 @@ fn predicted_vertex(drape: &[f64], pins: &[u8], dt: f64, i: usize) -> Vec3
     }
 }
 
-// The predicted numbers of n vertices become those of `work` from `at` on.
+// The predicted numbers of n vertices become the staged positions.
 #[tactic(auto, unfolding(crate::specs::Step::predicted_copy))]
-pub(crate) fn predict(work: &mut [f64], at: usize, drape: &[f64], pins: &[u8], n: usize, dt: f64)
-    requires n_bound { n ≤ 32 }
-    requires at_in_work { at + 3 * n ≤ length work.old }
-    requires drape_len { length drape.now ≡ drape_part }
-    requires pins_long { 4 * n ≤ length pins.now }
-    ensures { work.new ≡ put work.old at (flat3 (predicted_copy dt n pins.now drape.now)) }
+pub(crate) fn predict(work: &mut Work, drape: &DrapePart, pins: &PinPart, n: Vertices, dt: f64)
+    ensures { work.new ≡ put work.old place_positions (flat3 (predicted_copy dt n.count pins.now drape.now)) }
 {
-    let mut i = 0;
-    while i < n {
-        let p = predicted_vertex(drape, pins, dt, i);
-        rows::store3(work, at + 3 * i, p);
-        i += 1;
+    for i in 0..n.count {
+        predicted_vertex(drape, pins, dt, i).store(work, area::POSITIONS + 3 * i);
     }
 }

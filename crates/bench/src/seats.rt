@@ -1,15 +1,14 @@
 // What the bench knows of its six seats beside the areas.
 ghost use Rattle.std.specs.Prelude.{◌≡◌, ◌<◌, set};
-ghost use Rattle.vectors.specs.Number.{plus_zero};
 ghost use Rattle.bench.specs.Areas.{seats};
-ghost use Rattle.bench.specs.Strand.{settings_of, new_record};
+ghost use Rattle.bench.specs.Strand.{new_record};
 
 use crate::areas;
 
 // A strand's settings, which travel together: the stiffness against stretch, the three against bend
-// and twist, and the ratio below which a solve ends.
+// and twist, and the ratio below which a solve ends. Those of an empty seat are 0.
 #[repr(C)]
-#[derive(Clone, Copy)]
+#[derive(Clone, Copy, Default)]
 pub struct Settings {
     pub stiff_length: f64,
     pub stiff_bendtwist0: f64,
@@ -26,29 +25,6 @@ pub struct Record {
     pub settings: [Settings; 6],
 }
 
-// The record after a call, and the number that the call is refused with, 0 for none.
-#[repr(C)]
-#[derive(Clone, Copy)]
-pub struct Changed {
-    pub seats: Record,
-    pub refusal: u8,
-}
-
-impl Settings {
-    // Those of an empty seat.
-    pub fn zero() -> Settings
-        ensures { result ≡ settings_of plus_zero }
-    {
-        Settings {
-            stiff_length: 0.0,
-            stiff_bendtwist0: 0.0,
-            stiff_bendtwist1: 0.0,
-            stiff_bendtwist2: 0.0,
-            conv_ratio: 0.0,
-        }
-    }
-}
-
 impl Record {
     // The record of a new bench: all zero.
     #[tactic(auto, unfolding(crate::specs::Strand::new_record))]
@@ -57,7 +33,7 @@ impl Record {
     {
         Record {
             counts: [0; areas::SEATS],
-            settings: [Settings::zero(); areas::SEATS],
+            settings: [Settings::default(); areas::SEATS],
         }
     }
 }

@@ -1,52 +1,117 @@
 // The two calls that step a seat's strand.
-ghost use Rattle.std.specs.Prelude.{◌≡◌, true, ◌*◌, ◌≤◌, ◌<◌, length};
+ghost use Rattle.std.specs.Prelude.{◌≡◌, true, ◌*◌, ◌<◌, length};
 ghost use Rattle.matrix.specs.Parts.{part, put};
-ghost use Rattle.matrix.specs.Area.{work_numbers};
 ghost use Rattle.bench.specs.Areas.{seats, rest_numbers, drape_numbers, pin_bytes, rest_part, drape_part, pin_part};
 ghost use Rattle.bench.specs.Strand.{strand, bench_of};
 ghost use Rattle.bench.specs.Rows.{LeavesWork};
 ghost use Rattle.bench.specs.Answers.{reported, step_numbers, numbers_told};
-ghost use Rattle.bench.specs.Step.{still, over, pick_fits, update_of, step_answer, step_drape};
+ghost use Rattle.bench.specs.Refusals.{answered};
+ghost use Rattle.bench.specs.Step.{still, over, update_of, step_answer, step_drape};
 ghost use Rattle.bench.specs.Asks.{step, call_with};
 ghost use Rattle.bench.specs.Calls.{number_of, answer_of, after_of};
 
 use crate::answers::{Pick, StepAnswer};
+use crate::areas::{PinPart, RestPart};
+use crate::picked::Picked;
+use crate::refusal::Refusal;
 use crate::seats::{Record, Settings};
+use crate::step::dynamic::Dynamic;
+use crate::step::kind::Kind;
+use crate::step::still::Static;
 use crate::{areas, asked, step};
+use matrix::area::Work;
 
-// A static step of the seat's strand, which has n vertices and the settings g.
-fn static_on(
+// A step on a seat's parts. A match makes the drape's an array: with `unwrap` a proof would not know what
+// was written.
+fn on_parts<K: Kind>(
+    kind: K,
+    rest: &RestPart,
+    drape: &mut [f64],
+    pins: &PinPart,
+    work: &mut Work,
+    p: Picked,
+    g: Settings,
+) -> Result<StepAnswer, Refusal>
+    requires drape_len { length drape.old ≡ drape_part }
+    ensures value { answered result ≡ step_answer (update_of (strand p.n.count g rest.now drape.old pins.now) p.pick (K.time kind)) }
+    ensures drape_after { drape.new ≡ step_drape drape.old (update_of (strand p.n.count g rest.now drape.old pins.now) p.pick (K.time kind)) }
+{
+    let Some(part) = drape.as_mut_array() else {
+        unreachable!()
+    };
+    step::update(kind, rest, part, pins, work, p, g)
+}
+
+// A step of the seat's strand, which has the settings g.
+fn on_seat<K: Kind>(
+    kind: K,
+    rest: &[f64],
+    drape: &mut [f64],
+    pins: &[u8],
+    work: &mut Work,
+    seat: usize,
+    p: Picked,
+    g: Settings,
+) -> Result<StepAnswer, Refusal>
+    requires seat_lt_seats { seat < seats }
+    requires rest_len { length rest.now ≡ rest_numbers }
+    requires drape_len { length drape.old ≡ drape_numbers }
+    requires pins_len { length pins.now ≡ pin_bytes }
+    ensures value { answered result ≡ step_answer (update_of (strand p.n.count g (part rest.now (rest_part * seat) rest_part) (part drape.old (drape_part * seat) drape_part) (part pins.now (pin_part * seat) pin_part)) p.pick (K.time kind)) }
+    ensures drape_after { drape.new ≡ put drape.old (drape_part * seat) (step_drape (part drape.old (drape_part * seat) drape_part) (update_of (strand p.n.count g (part rest.now (rest_part * seat) rest_part) (part drape.old (drape_part * seat) drape_part) (part pins.now (pin_part * seat) pin_part)) p.pick (K.time kind))) }
+{
+    let r = areas::REST_PART * seat;
+    let d = areas::DRAPE_PART * seat;
+    let b = areas::PIN_PART * seat;
+    on_parts(
+        kind,
+        rest[r..r + areas::REST_PART].as_array().unwrap(),
+        &mut drape[d..d + areas::DRAPE_PART],
+        pins[b..b + areas::PIN_PART].as_array().unwrap(),
+        work,
+        p,
+        g,
+    )
+}
+
+// A step of the seat's strand, if it has one and nothing declines it.
+fn stepped<K: Kind>(
+    kind: K,
+    seats: Record,
     rest: &[f64],
     drape: &mut [f64],
     pins: &[u8],
     work: &mut [f64],
     seat: usize,
-    n: usize,
-    g: Settings,
     pick: Pick,
-) -> StepAnswer
-    requires seat_lt_seats { seat < seats }
-    requires n_in_range { (2 ≤ n) × (n ≤ 32) }
-    requires good_pick { pick_fits n pick ≡ true }
-    requires rest_len { length rest.now ≡ rest_numbers }
-    requires drape_len { length drape.old ≡ drape_numbers }
-    requires pins_len { length pins.now ≡ pin_bytes }
-    requires work_len { length work.old ≡ work_numbers }
-    ensures value { result ≡ step_answer (update_of (strand n g (part rest.now (rest_part * seat) rest_part) (part drape.old (drape_part * seat) drape_part) (part pins.now (pin_part * seat) pin_part)) pick still) }
-    ensures drape_after { drape.new ≡ put drape.old (drape_part * seat) (step_drape (part drape.old (drape_part * seat) drape_part) (update_of (strand n g (part rest.now (rest_part * seat) rest_part) (part drape.old (drape_part * seat) drape_part) (part pins.now (pin_part * seat) pin_part)) pick still)) }
+) -> Result<StepAnswer, Refusal>
+    ensures answer { reported (answered result) ≡ answer_of (call_with work.old seat (step pick (K.time kind))) (bench_of seats rest.now drape.old pins.now) }
+    ensures numbers { step_numbers (answered result) ≡ numbers_told (answer_of (call_with work.old seat (step pick (K.time kind))) (bench_of seats rest.now drape.old pins.now)) }
+    ensures after { bench_of seats rest.now drape.new pins.now ≡ after_of (call_with work.old seat (step pick (K.time kind))) (bench_of seats rest.now drape.old pins.now) }
+    ensures leaves_work { LeavesWork (number_of (call_with work.old seat (step pick (K.time kind))) (bench_of seats rest.now drape.old pins.now)) work.old work.new }
 {
-    let r = areas::REST_PART * seat;
-    let d = areas::DRAPE_PART * seat;
-    let p = areas::PIN_PART * seat;
-    step::update_static(
-        &rest[r..r + areas::REST_PART],
-        &mut drape[d..d + areas::DRAPE_PART],
-        &pins[p..p + areas::PIN_PART],
-        work,
-        n,
-        g,
-        pick,
+    let p = asked::asked(seats, rest, drape, pins, work, seat, pick, kind.fits())?;
+    on_seat(
+        kind,
+        rest,
+        drape,
+        pins,
+        work.as_mut_array().unwrap(),
+        seat,
+        p,
+        seats.settings[seat],
     )
+}
+
+// A step's answer, of either outcome.
+#[tactic(auto, unfolding(crate::specs::Refusals::answered))]
+fn answered(r: Result<StepAnswer, Refusal>) -> StepAnswer
+    ensures { result ≡ answered r }
+{
+    match r {
+        Ok(a) => a,
+        Err(k) => StepAnswer::Refused(k),
+    }
 }
 
 // A static step of the seat's strand: its shape moves towards rest, against pins and pick.
@@ -64,59 +129,7 @@ pub fn update_static(
     ensures after { bench_of seats rest.now drape.new pins.now ≡ after_of (call_with work.old seat (step pick still)) (bench_of seats rest.now drape.old pins.now) }
     ensures leaves_work { LeavesWork (number_of (call_with work.old seat (step pick still)) (bench_of seats rest.now drape.old pins.now)) work.old work.new }
 {
-    let k = asked::step_number(seats, rest, &drape[..], pins, &work[..], seat, pick, true);
-    if k != 0 {
-        return StepAnswer::Refused(k);
-    }
-    let counts = seats.counts;
-    let settings = seats.settings;
-    static_on(
-        rest,
-        drape,
-        pins,
-        work,
-        seat,
-        counts[seat],
-        settings[seat],
-        pick,
-    )
-}
-
-// A dynamic step of the seat's strand, which has n vertices and the settings g.
-fn dynamic_on(
-    rest: &[f64],
-    drape: &mut [f64],
-    pins: &[u8],
-    work: &mut [f64],
-    seat: usize,
-    n: usize,
-    g: Settings,
-    pick: Pick,
-    dt: f64,
-) -> StepAnswer
-    requires seat_lt_seats { seat < seats }
-    requires n_in_range { (2 ≤ n) × (n ≤ 32) }
-    requires good_pick { pick_fits n pick ≡ true }
-    requires rest_len { length rest.now ≡ rest_numbers }
-    requires drape_len { length drape.old ≡ drape_numbers }
-    requires pins_len { length pins.now ≡ pin_bytes }
-    requires work_len { length work.old ≡ work_numbers }
-    ensures value { result ≡ step_answer (update_of (strand n g (part rest.now (rest_part * seat) rest_part) (part drape.old (drape_part * seat) drape_part) (part pins.now (pin_part * seat) pin_part)) pick (over dt)) }
-    ensures drape_after { drape.new ≡ put drape.old (drape_part * seat) (step_drape (part drape.old (drape_part * seat) drape_part) (update_of (strand n g (part rest.now (rest_part * seat) rest_part) (part drape.old (drape_part * seat) drape_part) (part pins.now (pin_part * seat) pin_part)) pick (over dt))) }
-{
-    let r = areas::REST_PART * seat;
-    let d = areas::DRAPE_PART * seat;
-    let p = areas::PIN_PART * seat;
-    step::update_dynamic(
-        &rest[r..r + areas::REST_PART],
-        &mut drape[d..d + areas::DRAPE_PART],
-        &pins[p..p + areas::PIN_PART],
-        work,
-        n,
-        g,
-        pick,
-        dt,
-    )
+    answered(stepped(Static, seats, rest, drape, pins, work, seat, pick))
 }
 
 // A dynamic step of the seat's strand: it moves on for the time dt.
@@ -135,22 +148,6 @@ pub fn update_dynamic(
     ensures after { bench_of seats rest.now drape.new pins.now ≡ after_of (call_with work.old seat (step pick (over dt))) (bench_of seats rest.now drape.old pins.now) }
     ensures leaves_work { LeavesWork (number_of (call_with work.old seat (step pick (over dt))) (bench_of seats rest.now drape.old pins.now)) work.old work.new }
 {
-    let fits = asked::time_fits(dt);
-    let k = asked::step_number(seats, rest, &drape[..], pins, &work[..], seat, pick, fits);
-    if k != 0 {
-        return StepAnswer::Refused(k);
-    }
-    let counts = seats.counts;
-    let settings = seats.settings;
-    dynamic_on(
-        rest,
-        drape,
-        pins,
-        work,
-        seat,
-        counts[seat],
-        settings[seat],
-        pick,
-        dt,
-    )
+    let kind = Dynamic { dt };
+    answered(stepped(kind, seats, rest, drape, pins, work, seat, pick))
 }

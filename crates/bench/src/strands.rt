@@ -1,5 +1,5 @@
 // A seat's whole parts of the three areas, stored at once.
-ghost use Rattle.std.specs.Prelude.{◌≡◌, ◌++◌, ◌+◌, ◌*◌, ◌≤◌, ◌<◌, length, replicate};
+ghost use Rattle.std.specs.Prelude.{◌≡◌, ◌++◌, ◌*◌, ◌≤◌, ◌<◌, length, replicate};
 ghost use Rattle.vectors.specs.Number.{plus_zero};
 ghost use Rattle.matrix.specs.Parts.{put};
 ghost use Rattle.bench.specs.Areas.{seats, rest_numbers, drape_numbers, pin_bytes, rest_part, drape_part, pin_part, vector_part};
@@ -17,34 +17,50 @@ pub(crate) fn clear(rest: &mut [f64], drape: &mut [f64], pins: &mut [u8], seat: 
     ensures drape_after { drape.new ≡ put drape.old (drape_part * seat) (replicate drape_part plus_zero) }
     ensures pins_after { pins.new ≡ put pins.old (pin_part * seat) (replicate pin_part 0) }
 {
-    parts::zeros(rest, areas::REST_PART * seat, areas::REST_PART);
-    parts::zeros(drape, areas::DRAPE_PART * seat, areas::DRAPE_PART);
-    parts::zero_bytes(pins, areas::PIN_PART * seat, areas::PIN_PART);
+    let r = areas::REST_PART * seat;
+    let d = areas::DRAPE_PART * seat;
+    let p = areas::PIN_PART * seat;
+    rest[r..r + areas::REST_PART].fill(0.0);
+    drape[d..d + areas::DRAPE_PART].fill(0.0);
+    pins[p..p + areas::PIN_PART].fill(0);
 }
 
-// A rest part from `at` on: the positions and the frames, each with zeros behind them.
-fn lay_rest(rest: &mut [f64], at: usize, positions: &[f64], frames: &[f64])
-    requires positions_len_bound { length positions.now ≤ vector_part }
-    requires frames_len_bound { length frames.now ≤ vector_part }
-    requires rest_part_in_bounds { at + rest_part ≤ length rest.old }
-    ensures { rest.new ≡ put rest.old at (padded positions.now ++ padded frames.now) }
+// The list, and zeros up to the numbers of 32 vertices.
+fn pad(area: &mut [f64], list: &[f64])
+    requires area_len { length area.old ≡ vector_part }
+    requires list_len { length list.now ≤ vector_part }
+    ensures { area.new ≡ padded list.now }
 {
-    parts::fill(rest, at, positions);
-    parts::fill(rest, at + areas::VECTOR_PART, frames);
+    let (front, back) = area.split_at_mut(list.len());
+    parts::store(front, list);
+    back.fill(0.0);
 }
 
-// A drape part from `at` on: positions and frames as at rest, velocities 0, and the positions again as
-// the working copy.
-fn lay_drape(drape: &mut [f64], at: usize, positions: &[f64], frames: &[f64])
-    requires positions_len_bound { length positions.now ≤ vector_part }
-    requires frames_len_bound { length frames.now ≤ vector_part }
-    requires drape_part_in_bounds { at + drape_part ≤ length drape.old }
-    ensures { drape.new ≡ put drape.old at (padded positions.now ++ (padded frames.now ++ (replicate vector_part plus_zero ++ padded positions.now))) }
+// A rest part: the positions and the frames, each with zeros behind them.
+fn lay_rest(rest: &mut [f64], positions: &[f64], frames: &[f64])
+    requires rest_len { length rest.old ≡ rest_part }
+    requires positions_len { length positions.now ≤ vector_part }
+    requires frames_len { length frames.now ≤ vector_part }
+    ensures { rest.new ≡ padded positions.now ++ padded frames.now }
 {
-    let velocities = at + areas::VECTOR_PART + areas::VECTOR_PART;
-    lay_rest(drape, at, positions, frames);
-    parts::zeros(drape, velocities, areas::VECTOR_PART);
-    parts::fill(drape, velocities + areas::VECTOR_PART, positions);
+    let (xyz, framex) = rest.split_at_mut(areas::VECTOR_PART);
+    pad(xyz, positions);
+    pad(framex, frames);
+}
+
+// A drape part: positions and frames as at rest, velocities 0, and the positions again as the working
+// copy.
+fn lay_drape(drape: &mut [f64], positions: &[f64], frames: &[f64])
+    requires drape_len { length drape.old ≡ drape_part }
+    requires positions_len { length positions.now ≤ vector_part }
+    requires frames_len { length frames.now ≤ vector_part }
+    ensures { drape.new ≡ padded positions.now ++ (padded frames.now ++ (replicate vector_part plus_zero ++ padded positions.now)) }
+{
+    let (shape, motion) = drape.split_at_mut(areas::REST_PART);
+    lay_rest(shape, positions, frames);
+    let (velocities, copy) = motion.split_at_mut(areas::VECTOR_PART);
+    velocities.fill(0.0);
+    pad(copy, positions);
 }
 
 // The strand is laid on the seat, without pins.
@@ -60,13 +76,16 @@ pub(crate) fn lay(
     requires rest_len { length rest.old ≡ rest_numbers }
     requires drape_len { length drape.old ≡ drape_numbers }
     requires pins_len { length pins.old ≡ pin_bytes }
-    requires positions_len_bound { length positions.now ≤ vector_part }
-    requires frames_len_bound { length frames.now ≤ vector_part }
+    requires positions_len { length positions.now ≤ vector_part }
+    requires frames_len { length frames.now ≤ vector_part }
     ensures rest_after { rest.new ≡ put rest.old (rest_part * seat) (padded positions.now ++ padded frames.now) }
     ensures drape_after { drape.new ≡ put drape.old (drape_part * seat) (padded positions.now ++ (padded frames.now ++ (replicate vector_part plus_zero ++ padded positions.now))) }
     ensures pins_after { pins.new ≡ put pins.old (pin_part * seat) (replicate pin_part 0) }
 {
-    lay_rest(rest, areas::REST_PART * seat, positions, frames);
-    lay_drape(drape, areas::DRAPE_PART * seat, positions, frames);
-    parts::zero_bytes(pins, areas::PIN_PART * seat, areas::PIN_PART);
+    let r = areas::REST_PART * seat;
+    let d = areas::DRAPE_PART * seat;
+    let p = areas::PIN_PART * seat;
+    lay_rest(&mut rest[r..r + areas::REST_PART], positions, frames);
+    lay_drape(&mut drape[d..d + areas::DRAPE_PART], positions, frames);
+    pins[p..p + areas::PIN_PART].fill(0);
 }

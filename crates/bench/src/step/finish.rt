@@ -1,33 +1,56 @@
-// The end of both kinds of step: the solution is tested, and the staged shape moves.
-ghost use Rattle.std.specs.Prelude.{◌≡◌, ◌&&◌, ◌≤◌, length};
+// The end of a step: the solution is tested, the staged shape moves, and what would be left on the drape
+// is tested before it is copied there.
+ghost use Rattle.std.specs.Prelude.{◌≡◌, ◌&&◌};
 ghost use Rattle.vectors.specs.Finite.{is_finite, vec4_is_finite};
 ghost use Rattle.matrix.specs.Rows.{rows4};
-ghost use Rattle.matrix.specs.Area.{place_u, work_numbers};
+ghost use Rattle.matrix.specs.Area.{place_u};
 ghost use Rattle.matrix.specs.System.{every};
 ghost use Rattle.matrix.specs.HairSystem.{staged_shape};
-ghost use Rattle.bench.specs.Areas.{pin_part};
-ghost use Rattle.bench.specs.Update.{turns_fit, update_solution_hair};
+ghost use Rattle.matrix.specs.ConjugateGradient.{vectors_at, outcome};
+ghost use Rattle.bench.specs.Rows.{first};
+ghost use Rattle.bench.specs.Refusals.{told};
+ghost use Rattle.bench.specs.Update.{update_solution_hair};
+ghost use Rattle.bench.specs.Step.{finish_rows, drape_after, drape_by};
 
+use crate::areas::{DrapePart, PinPart};
+use crate::refusal::Refusal;
 use crate::rod3_darboux;
+use crate::step::kind::Kind;
+use matrix::area::Work;
+use matrix::conjugate_gradient::Solve;
+use matrix::vertices::Vertices;
 use matrix::{area, system};
-use vectors::finite;
+use vectors::vec4::Vec4;
 
 // Whether 9 does not decline the solution and its ratio.
-pub(crate) fn solution_is_finite(work: &[f64], n: usize, ratio: f64) -> bool
-    requires n_bound { n ≤ 32 }
-    requires work_len { length work.now ≡ work_numbers }
-    ensures { result ≡ (is_finite ratio && every vec4_is_finite (rows4 work.now place_u n)) }
+#[tactic(auto, unfolding(matrix::specs::Rows::rows4))]
+fn solution_is_finite(work: &Work, n: Vertices, ratio: f64) -> bool
+    ensures { result ≡ (is_finite ratio && every vec4_is_finite (rows4 work.now place_u n.count)) }
 {
-    finite::is_finite(ratio) & system::rows_are_finite(work, area::U, n)
+    ratio.is_finite() & system::rows_are_finite::<Vec4>(work, area::U, n.count)
 }
 
-// The staged shape moves by the solution; the answer is whether 10 does not decline it.
-pub(crate) fn update(work: &mut [f64], pins: &[u8], n: usize) -> bool
-    requires n_in_range { (2 ≤ n) × (n ≤ 32) }
-    requires pins_len { length pins.now ≡ pin_part }
-    requires work_len { length work.old ≡ work_numbers }
-    ensures value { result ≡ turns_fit n pins.now (staged_shape n work.old) (rows4 work.old place_u n) }
-    ensures work_after { staged_shape n work.new ≡ update_solution_hair n pins.now (staged_shape n work.old) (rows4 work.old place_u n) }
+// A step of any kind ends.
+pub(crate) fn finish<K: Kind>(
+    kind: K,
+    work: &mut Work,
+    drape: &mut DrapePart,
+    pins: &PinPart,
+    n: Vertices,
+    s: Solve,
+) -> Result<(), Refusal>
+    ensures number { told result ≡ first (finish_rows n.count pins.now (staged_shape n.count work.old) (outcome (vectors_at n.count work.old) s.count s.ratio) (drape_after (K.time kind) n.count pins.now drape.old (update_solution_hair n.count pins.now (staged_shape n.count work.old) (rows4 work.old place_u n.count)))) }
+    ensures drape_after { drape.new ≡ drape_by (told result) drape.old (drape_after (K.time kind) n.count pins.now drape.old (update_solution_hair n.count pins.now (staged_shape n.count work.old) (rows4 work.old place_u n.count))) }
 {
-    rod3_darboux::update_solution_hair(work, area::POSITIONS, area::FRAMES, area::U, pins, n)
+    if !solution_is_finite(work, n, s.ratio) {
+        return Err(Refusal::Solution);
+    }
+    if !rod3_darboux::update_solution_hair(work, pins, n) {
+        return Err(Refusal::Turn);
+    }
+    if !kind.stage_end(work, drape, pins, n) {
+        return Err(Refusal::Drape);
+    }
+    kind.copy(drape, work, pins, n);
+    Ok(())
 }

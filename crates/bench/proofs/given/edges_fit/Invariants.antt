@@ -1,6 +1,5 @@
 -- The invariant: whether the first i edges fit.
-use Prim.Native.Nat.{ℕ, ◌+◌, ◌-◌, ◌≤◌}
-use mathlib.Core.Path.{◌≡◌}
+use Rattle.std.proofs.Common.{◌≡◌, ℕ, ◌+◌}
 use Rattle.vectors.specs.Edge.{edge_length}
 use Rattle.matrix.specs.Parts.{table}
 use Rattle.matrix.specs.Rows.{rows3}
@@ -9,7 +8,4 @@ use Rattle.matrix.specs.HairSystem.{vec3_at}
 use Rattle.bench.proofs.given.edges_fit.Given as goal
 
 abbrev pub invariant-loop-i : goal.invariant-loop-i
-invariant-loop-i l = (l.i + 1 ≤ l.n) × (l.all ≡ every (λ (k : ℕ). (edge_length (vec3_at (rows3 l.positions 0 l.n) k) (vec3_at (rows3 l.positions 0 l.n) (k + 1))).acceptable) (table l.i (λ k. k)))
-
-abbrev pub decreases-loop-i : goal.decreases-loop-i
-decreases-loop-i l = l.n - l.i
+invariant-loop-i l = l.all ≡ every (λ (k : ℕ). (edge_length (vec3_at (rows3 l.positions 0 l.n) k) (vec3_at (rows3 l.positions 0 l.n) (k + 1))).acceptable) (table l.i (λ k. k))

@@ -1,27 +1,16 @@
--- Whether the first i numbers are finite.
-use mathlib.Core.Path.{◌≡◌, refl, sym, ap, ◌∙◌}
-use native.Mathlib.Omega.{arith}
-use lib.ListN.{length}
-use lib.Ieee.{nan}
+-- The chain asks every number, as the test of all does.
+use Rattle.std.proofs.Common.{◌≡◌, Bool, List, [], ◌∷◌, refl, ◌∙◌, rules, tests}
+use Rattle.std.specs.List.{list_all}
+use Rattle.std.proofs.lemmas.Iterator.{YieldsList-from_slice}
+use Rattle.std.proofs.lemmas.Iterator.Search.{all_from_yields_List}
 use Rattle.vectors.specs.Finite.{is_finite}
-use Rattle.matrix.specs.Parts.{table}
 use Rattle.matrix.specs.System.{every}
-use Rattle.matrix.proofs.Parts.{table_of}
-use Rattle.matrix.proofs.Every.{every_more}
 use Rattle.bench.proofs.given.numbers_are_finite.Goals as goal
 
-pub loop-i-init : goal.loop-i-init
-unfolding every table
-loop-i-init c = (omega arith, refl)
-
-pub loop-i-preserved : goal.loop-i-preserved
-loop-i-preserved c =
-    let l = c.loop-i in
-    (omega arith, rw (l.invariant.1, c.is_finite-all.ensures) (sym (every_more is_finite l.i _)))
+every_is_all : {A : Type 0} (t : A → Bool) (l : List A) → list_all t l ≡ every t l
+unfolding every
+every_is_all t [] = refl
+every_is_all t (x ∷ l) = rw (every_is_all t l)
 
 pub returns : goal.returns
-returns c =
-    let l = c.loop-i in
-    let list = c.args.list.now in
-    let e : l.i ≡ length list = omega arith in
-    l.invariant.1 ∙ ap (every is_finite) (rw e (table_of nan list))
+returns c = all_from_yields_List is_finite _ _ _ c.all.ensures.ran (YieldsList-from_slice c.args.list.now cc) (λ x b q k. search (rules, tests)) ∙ every_is_all is_finite c.args.list.now

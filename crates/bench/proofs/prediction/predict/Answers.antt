@@ -8,18 +8,18 @@ use Rattle.bench.specs.Step.{predicted_copy}
 use Rattle.bench.proofs.prediction.predict.Goals as goal
 
 pub loop-i-init : goal.loop-i-init
-loop-i-init c = (omega arith, stored_none _ _ _)
+loop-i-init c = stored_none _ _ _
 
 pub loop-i-preserved : goal.loop-i-preserved
 loop-i-preserved c =
     let a = c.args in
     let l = c.loop-i in
     let d = a.drape.now in
-    let p = vec3_at_lem d place_positions a.n l.i (3 * l.i) (omega arith) (omega arith) in
-    let v = vec3_at_lem d place_velocities a.n l.i (place_velocities + 3 * l.i) (omega arith) (omega arith) in
-    let w = vec3_at_lem d place_working_copy a.n l.i (place_working_copy + 3 * l.i) (omega arith) (omega arith) in
-    (omega arith, stored_more l.invariant.1 c.store3.ensures (rw (c.predicted_vertex-p.ensures, p, v, w)))
+    let p = vec3_at_lem d place_positions a.n.count l.i (3 * l.i) (omega arith) (omega arith) in
+    let v = vec3_at_lem d place_velocities a.n.count l.i (place_velocities + 3 * l.i) (omega arith) (omega arith) in
+    let w = vec3_at_lem d place_working_copy a.n.count l.i (place_working_copy + 3 * l.i) (omega arith) (omega arith) in
+    stored_more l.invariant c.store.ensures (rw (c.predicted_vertex.ensures, p, v, w))
 
 pub returns : goal.returns
 unfolding predicted_copy
-returns c = stored_all c.loop-i.invariant.1 (omega arith)
+returns c = stored_all c.loop-i.invariant (omega arith)

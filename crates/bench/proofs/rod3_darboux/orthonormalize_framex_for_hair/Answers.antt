@@ -5,13 +5,10 @@ use Rattle.bench.proofs.EdgeLaws.{across_more, across_all}
 use Rattle.bench.proofs.rod3_darboux.orthonormalize_framex_for_hair.Goals as goal
 
 pub loop-i-init : goal.loop-i-init
-loop-i-init c = record { within = omega arith; stored = stored_none _ _ _ }
+loop-i-init c = stored_none _ _ _
 
 pub loop-i-preserved : goal.loop-i-preserved
-loop-i-preserved c = record {
-  within = omega arith;
-  stored = across_more _ _ _ _ _ _ c.loop-i.invariant.stored c.loop-i-test.true c.requires.apart c.orthonormal-x.ensures c.store3.ensures;
-}
+loop-i-preserved c = across_more _ _ _ _ _ _ c.loop-i.invariant (omega arith) (λ k a b d e. omega arith) c.orthonormal.ensures c.store.ensures
 
 pub returns : goal.returns
-returns c = across_all _ _ _ _ _ _ c.loop-i.invariant.stored (omega arith) c.requires.framex_in_area
+returns c = across_all _ _ _ _ _ _ c.loop-i.invariant (omega arith) (omega arith)

@@ -1,6 +1,9 @@
 -- The edge, the frame and the two rows are those of vertex i and the next.
+use Rattle.matrix.specs.Area.{place_u, place_positions, place_frames}
+use Rattle.matrix.specs.HairSystem.{staged_shape}
 use Rattle.bench.proofs.TurnLaws.{turn_at_lem}
 use Rattle.bench.proofs.rod3_darboux.turned_frame.Goals as goal
 
 pub returns : goal.returns
-returns c = turn_at_lem _ _ _ _ _ _ c.requires.i_bound c.edge-z.ensures c.load3-x.ensures c.load4-a.ensures c.load4-b.ensures c.updated_rod_frame.ensures
+unfolding staged_shape
+returns c = turn_at_lem _ place_positions place_frames place_u _ _ c.requires c.edge.ensures c.load-x.ensures c.load-a.ensures c.load-b.ensures c.updated_rod_frame.ensures

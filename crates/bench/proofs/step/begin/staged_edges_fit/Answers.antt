@@ -8,4 +8,4 @@ use Rattle.bench.proofs.step.begin.staged_edges_fit.Goals as goal
 
 pub returns : goal.returns
 unfolding part staged_shape
-returns c = let a = c.args in rw (c.edges_fit.ensures, rows3_part a.work.now place_positions 96 a.n (omega arith))
+returns c = let a = c.args in rw (c.edges_fit.ensures, rows3_part a.work.now place_positions 96 a.n.count (omega (arith, a.n.in_range)))

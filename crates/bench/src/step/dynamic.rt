@@ -1,0 +1,65 @@
+// A dynamic step: the strand moves on for the time dt.
+ghost use Rattle.bench.specs.Step.{over};
+
+use crate::areas::{DrapePart, PinPart};
+use crate::step::kind::Kind;
+use crate::{areas, given, parts, positions, prediction, rod3_darboux, velocities};
+use matrix::area::Work;
+use matrix::vertices::Vertices;
+use matrix::{area, loads};
+
+#[derive(Clone, Copy)]
+pub(crate) struct Dynamic {
+    pub(crate) dt: f64,
+}
+
+impl Kind for Dynamic {
+    ghost time = { λ k. over k.dt };
+
+    #[tactic(auto, unfolding(crate::specs::Step::time_fits))]
+    fn fits(self) -> bool {
+        self.dt.is_finite() & (0.0 < self.dt)
+    }
+
+    // The predicted working copy, and the drape's frames, orthonormalised along it.
+    fn stage(self, work: &mut Work, drape: &DrapePart, pins: &PinPart, n: Vertices) {
+        let k = 3 * n.count;
+        prediction::predict(work, drape, pins, n, self.dt);
+        parts::store(
+            &mut work[area::FRAMES..area::FRAMES + k],
+            &drape[areas::FRAMES..areas::FRAMES + k],
+        );
+        rod3_darboux::orthonormalize_framex_for_hair(work, n);
+    }
+
+    #[tactic(auto, unfolding(crate::specs::Step::timed))]
+    fn add_inertia(self, work: &mut Work, n: Vertices) {
+        loads::add_inertia(work, n, self.dt);
+    }
+
+    fn stage_end(self, work: &mut Work, drape: &DrapePart, pins: &PinPart, n: Vertices) -> bool {
+        let k = 3 * n.count;
+        velocities::stage_velocities(work, drape, pins, n, self.dt);
+        positions::positions_are_finite(work, drape, pins, n)
+            & given::numbers_are_finite(&work[area::FRAMES..area::FRAMES + k])
+            & given::numbers_are_finite(&work[area::VELOCITIES..area::VELOCITIES + k])
+    }
+
+    // A pinned position stays.
+    fn copy(self, drape: &mut DrapePart, work: &Work, pins: &PinPart, n: Vertices) {
+        let k = 3 * n.count;
+        positions::store_positions(drape, work, pins, n);
+        parts::store(
+            &mut drape[areas::FRAMES..areas::FRAMES + k],
+            &work[area::FRAMES..area::FRAMES + k],
+        );
+        parts::store(
+            &mut drape[areas::VELOCITIES..areas::VELOCITIES + k],
+            &work[area::VELOCITIES..area::VELOCITIES + k],
+        );
+        parts::store(
+            &mut drape[areas::WORKING_COPY..areas::WORKING_COPY + k],
+            &work[area::POSITIONS..area::POSITIONS + k],
+        );
+    }
+}
