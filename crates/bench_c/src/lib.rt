@@ -5,6 +5,7 @@ ghost use Rattle.std.specs.Prelude.{◌≡◌, List, ℕ, Float};
 ghost use Rattle.roots.specs.Sqrt.{sqrt_of};
 ghost use Rattle.vectors.specs.Vec3.{vec3};
 ghost use Rattle.bench.specs.Strand.{bench_of};
+ghost use Rattle.bench.specs.Refusals.{told, record_after};
 ghost use Rattle.matrix.specs.Parts.{part};
 ghost use Rattle.bench.specs.Rows.{LeavesWork};
 ghost use Rattle.bench.specs.Answers.{said, handed, reported};
@@ -14,9 +15,18 @@ ghost use Rattle.bench.specs.Calls.{number_of, answer_of, after_of};
 ghost use Rattle.bench_c.specs.Exported.{pick_of, report_of, looked_at, place_of};
 
 use bench::answers::{Pick, StepAnswer};
-use bench::seats::{Changed, Record, Settings};
-use bench::{areas, load, look, pin, steps, unload};
+use bench::refusal::Refusal;
+use bench::seats::{Record, Settings};
+use bench::{areas, load, look, pin, refusal, steps, unload};
 use vectors::vec3::Vec3;
+
+// The record after a call, and the number that the call is refused with, 0 for none.
+#[repr(C)]
+#[derive(Clone, Copy)]
+pub struct Changed {
+    pub seats: Record,
+    pub refusal: u8,
+}
 
 // A step's answer: the number that it is refused with, 0 for none, and its numbers.
 #[repr(C)]
@@ -46,27 +56,43 @@ fn picked(flag: u8, vertex: usize, goal: Vec3) -> Pick
     Pick::At(vertex, goal)
 }
 
-#[tactic(auto, unfolding(bench::specs::Answers::step_numbers, bench::specs::Answers::numbers_told))]
-fn told(a: StepAnswer) -> Report
-    ensures { result ≡ report_of (reported a) }
-{
-    match a {
-        StepAnswer::Accepted {
-            energy,
-            ratio,
-            count,
-        } => Report {
-            number: 0,
-            energy,
-            count,
-            ratio,
-        },
-        StepAnswer::Refused(k) => Report {
-            number: k,
-            energy: 0.0,
-            count: 0,
-            ratio: 0.0,
-        },
+impl Changed {
+    // What a call on a record comes to, by its outcome.
+    #[tactic(auto, unfolding(bench::specs::Refusals::record_after))]
+    fn new(before: Record, outcome: Result<Record, Refusal>) -> Changed
+        ensures seats { result.seats ≡ record_after before outcome }
+        ensures refusal { result.refusal ≡ told outcome }
+    {
+        Changed {
+            seats: outcome.unwrap_or(before),
+            refusal: refusal::told(outcome),
+        }
+    }
+}
+
+impl From<StepAnswer> for Report {
+    ghost from_gives = { λ a r. r ≡ report_of (reported a) };
+
+    #[tactic(auto, unfolding(bench::specs::Answers::step_numbers, bench::specs::Answers::numbers_told))]
+    fn from(a: StepAnswer) -> Report {
+        match a {
+            StepAnswer::Accepted {
+                energy,
+                ratio,
+                count,
+            } => Report {
+                number: 0,
+                energy,
+                count,
+                ratio,
+            },
+            StepAnswer::Refused(r) => Report {
+                number: r.number(),
+                energy: 0.0,
+                count: 0,
+                ratio: 0.0,
+            },
+        }
     }
 }
 
@@ -86,9 +112,10 @@ pub extern "C" fn hairbench_load_value(
     ensures answer { said result.refusal ≡ answer_of (call seat (load (load_of n settings positions.now frames.now))) (bench_of «record» rest.old drape.old pins.old) }
     ensures after { bench_of result.seats rest.new drape.new pins.new ≡ after_of (call seat (load (load_of n settings positions.now frames.now))) (bench_of «record» rest.old drape.old pins.old) }
 {
-    load::load_value(
+    let outcome = load::load_value(
         record, rest, drape, pins, seat, n, settings, positions, frames,
-    )
+    );
+    Changed::new(record, outcome)
 }
 
 // The seat is emptied.
@@ -103,7 +130,8 @@ pub extern "C" fn hairbench_unload_value(
     ensures answer { said result.refusal ≡ answer_of (call seat unload) (bench_of «record» rest.old drape.old pins.old) }
     ensures after { bench_of result.seats rest.new drape.new pins.new ≡ after_of (call seat unload) (bench_of «record» rest.old drape.old pins.old) }
 {
-    unload::unload_value(record, rest, drape, pins, seat)
+    let outcome = unload::unload_value(record, rest, drape, pins, seat);
+    Changed::new(record, outcome)
 }
 
 // One pin byte is written.
@@ -119,7 +147,7 @@ pub extern "C" fn hairbench_pin(
     ensures answer { (rest drape : List Float) → said result ≡ answer_of (call seat (pin vertex component byte)) (bench_of «record» rest drape pins.old) }
     ensures after { (rest drape : List Float) → bench_of «record» rest drape pins.new ≡ after_of (call seat (pin vertex component byte)) (bench_of «record» rest drape pins.old) }
 {
-    pin::pin(record, pins, seat, vertex, component, byte)
+    refusal::told(pin::pin(record, pins, seat, vertex, component, byte))
 }
 
 // What the look with the same inputs is refused with, 0 for none.
@@ -134,7 +162,7 @@ pub extern "C" fn hairbench_companion(
     ensures answer { (pins : List ℕ) → said result ≡ answer_of (call seat (companion kind)) (bench_of «record» rest.now drape.now pins) }
     ensures after { (pins : List ℕ) → bench_of «record» rest.now drape.now pins ≡ after_of (call seat (companion kind)) (bench_of «record» rest.now drape.now pins) }
 {
-    look::companion(record, rest, drape, seat, kind)
+    refusal::told(look::companion(record, rest, drape, seat, kind))
 }
 
 // Where the numbers of a look stand, and how many they are; none where it is refused. Kinds 0 and 1 are
@@ -150,12 +178,10 @@ pub extern "C" fn hairbench_look(
     ensures place { (pins : List ℕ) → result ≡ place_of seat kind (bench_of «record» rest.now drape.now pins) }
     ensures part { (pins : List ℕ) → handed (part (looked_at kind rest.now drape.now) result.at result.count) ≡ answer_of (call seat (look kind)) (bench_of «record» rest.now drape.now pins) }
 {
-    let k = look::companion(record, rest, drape, seat, kind);
-    if k != 0 {
+    let Ok(()) = look::companion(record, rest, drape, seat, kind) else {
         return Place { at: 0, count: 0 };
-    }
-    let counts = record.counts;
-    let count = 3 * counts[seat];
+    };
+    let count = 3 * record.counts[seat];
     if kind < 2 {
         let at = areas::REST_PART * seat + areas::VECTOR_PART * kind;
         return Place { at, count };
@@ -192,8 +218,7 @@ pub extern "C" fn hairbench_step_static(
     ensures leaves_work { LeavesWork (number_of (call_with work.old seat (step (pick_of flag vertex (vec3 x y z)) still)) (bench_of «record» rest.now drape.old pins.now)) work.old work.new }
 {
     let pick = picked(flag, vertex, Vec3 { x, y, z });
-    let a = steps::update_static(record, rest, drape, pins, work, seat, pick);
-    told(a)
+    steps::update_static(record, rest, drape, pins, work, seat, pick).into()
 }
 
 // A dynamic step; no pick where `flag` is 0.
@@ -217,6 +242,5 @@ pub extern "C" fn hairbench_step_dynamic(
     ensures leaves_work { LeavesWork (number_of (call_with work.old seat (step (pick_of flag vertex (vec3 x y z)) (over dt))) (bench_of «record» rest.now drape.old pins.now)) work.old work.new }
 {
     let pick = picked(flag, vertex, Vec3 { x, y, z });
-    let a = steps::update_dynamic(record, rest, drape, pins, work, seat, pick, dt);
-    told(a)
+    steps::update_dynamic(record, rest, drape, pins, work, seat, pick, dt).into()
 }
