@@ -1,102 +1,165 @@
-// A bench as one value, its record and its areas.
-ghost use Rattle.std.specs.Prelude.{◌≤◌};
+// A bench as one value, and its calls.
+ghost use Rattle.std.specs.Prelude.{◌+◌, ◌≤◌};
+ghost use Rattle.bench.specs.declared.areas.TheConstants.{REST, DRAPE, PINS};
+ghost use Rattle.examples.specs.declared.benches.TheConstants.{WORK};
 
-use crate::print;
-use bench::seats::{Record, Settings};
-use bench::{areas, load, look, pin};
-use std::io;
+use crate::strands::Strand;
+use bench::answers::{Pick, StepAnswer};
+use bench::refusal::Refusal;
+use bench::seats::Record;
+use bench::{areas, load, look, pin, steps, unload};
 use vectors::vec3::Vec3;
 
+// Numbers in the work area.
+pub const WORK: usize = 3264;
+
+// How much of each area a call is lent, at most what a Bench has. A look and its companion are lent all that
+// they ask for.
 #[derive(Clone, Copy)]
+pub struct Lengths {
+    pub rest: usize,
+    pub drape: usize,
+    pub pins: usize,
+    pub work: usize,
+    ghost rest_fits: { rest ≤ REST + 1 },
+    ghost drape_fits: { drape ≤ DRAPE + 1 },
+    ghost pins_fit: { pins ≤ PINS + 1 },
+    ghost work_fits: { work ≤ WORK },
+}
+
+// What the bench asks for.
+impl Default for Lengths {
+    fn default() -> Lengths {
+        Lengths {
+            rest: areas::REST,
+            drape: areas::DRAPE,
+            pins: areas::PINS,
+            work: WORK,
+        }
+    }
+}
+
+// The record, how much of the areas is lent, and the areas. Those that last have one place more than the
+// bench asks for, so that a longer one can be lent.
+#[derive(Drop)]
 pub struct Bench {
     pub record: Record,
-    pub rest: [f64; areas::REST],
-    pub drape: [f64; areas::DRAPE],
-    pub pins: [u8; areas::PINS],
+    pub lent: Lengths,
+    rest: [f64; areas::REST + 1],
+    drape: [f64; areas::DRAPE + 1],
+    pub pins: [u8; areas::PINS + 1],
+    pub work: [f64; WORK],
 }
 
-// What a call makes of a bench, and the number that it is refused with, 0 for none.
-#[derive(Clone, Copy)]
-pub struct After {
-    pub bench: Bench,
-    pub refusal: u8,
-}
-
-pub fn new() -> Bench {
-    let record = Record::new();
-    Bench {
-        record,
-        rest: [0.0; areas::REST],
-        drape: [0.0; areas::DRAPE],
-        pins: [0; areas::PINS],
+impl Default for Bench {
+    fn default() -> Bench {
+        Bench {
+            record: Record::new(),
+            lent: Lengths::default(),
+            rest: [0.0; areas::REST + 1],
+            drape: [0.0; areas::DRAPE + 1],
+            pins: [0; areas::PINS + 1],
+            work: [0.0; WORK],
+        }
     }
 }
 
-pub fn load(
-    b: Bench,
-    seat: usize,
-    n: usize,
-    settings: Settings,
-    positions: &[f64],
-    frames: &[f64],
-) -> After {
-    let mut rest = b.rest;
-    let mut drape = b.drape;
-    let mut pins = b.pins;
-    let out = load::load_value(
-        b.record, &mut rest, &mut drape, &mut pins, seat, n, settings, positions, frames,
-    );
-    let record = out.seats;
-    let bench = Bench {
-        record,
-        rest,
-        drape,
-        pins,
-    };
-    After {
-        bench,
-        refusal: out.refusal,
+// Where a call writes in several areas, each is made a slice before a part of it is lent, since the check
+// follows no other form.
+impl Bench {
+    pub fn load(&mut self, seat: usize, strand: Strand) -> Result<(), Refusal> {
+        let lent = self.lent;
+        let rest = &mut self.rest[..];
+        let drape = &mut self.drape[..];
+        let pins = &mut self.pins[..];
+        self.record = load::load_value(
+            self.record,
+            &mut rest[..lent.rest],
+            &mut drape[..lent.drape],
+            &mut pins[..lent.pins],
+            seat,
+            strand.count,
+            strand.settings,
+            strand.positions,
+            strand.frames,
+        )?;
+        Ok(())
     }
-}
 
-pub fn pin(mut b: Bench, seat: usize, vertex: usize, component: usize, byte: u8) -> After {
-    let mut pins = b.pins;
-    let refusal = pin::pin(b.record, &mut pins, seat, vertex, component, byte);
-    b.pins = pins;
-    After { bench: b, refusal }
-}
-
-// The vector at a place among the numbers that a look hands back.
-pub fn show_look(
-    rt: &impl Print,
-    what: &[u8],
-    b: Bench,
-    seat: usize,
-    kind: usize,
-    at: usize,
-) -> io::Result<()>
-    requires { at ≤ 3 }
-{
-    let rest = b.rest;
-    let drape = b.drape;
-    show_three(
-        rt,
-        what,
-        look::look(b.record, &rest, &drape, seat, kind),
-        at,
-    )
-}
-
-fn show_three(rt: &impl Print, what: &[u8], numbers: &[f64], at: usize) -> io::Result<()>
-    requires { at ≤ 3 }
-{
-    if at + 3 <= numbers.len() {
-        let v = Vec3 {
-            x: numbers[at],
-            y: numbers[at + 1],
-            z: numbers[at + 2],
-        };
-        print::vector(rt, what, v)?;
+    pub fn unload(&mut self, seat: usize) -> Result<(), Refusal> {
+        let lent = self.lent;
+        let rest = &mut self.rest[..];
+        let drape = &mut self.drape[..];
+        let pins = &mut self.pins[..];
+        self.record = unload::unload_value(
+            self.record,
+            &mut rest[..lent.rest],
+            &mut drape[..lent.drape],
+            &mut pins[..lent.pins],
+            seat,
+        )?;
+        Ok(())
     }
-    Ok(())
+
+    pub fn pin(
+        &mut self,
+        seat: usize,
+        vertex: usize,
+        component: usize,
+        byte: u8,
+    ) -> Result<(), Refusal> {
+        let lent = self.lent;
+        pin::pin(
+            self.record,
+            &mut self.pins[..lent.pins],
+            seat,
+            vertex,
+            component,
+            byte,
+        )
+    }
+
+    pub fn companion(&self, seat: usize, kind: usize) -> Result<(), Refusal> {
+        look::companion(
+            self.record,
+            &self.rest[..areas::REST],
+            &self.drape[..areas::DRAPE],
+            seat,
+            kind,
+        )
+    }
+
+    pub fn look(&self, seat: usize, kind: usize) -> &[f64] {
+        look::look(
+            self.record,
+            &self.rest[..areas::REST],
+            &self.drape[..areas::DRAPE],
+            seat,
+            kind,
+        )
+    }
+
+    // The vector of a vertex among the numbers that a look hands back, if it is there.
+    pub fn vector(&self, seat: usize, kind: usize, vertex: usize) -> Option<Vec3> {
+        let (vectors, _) = self.look(seat, kind).as_chunks::<3>();
+        let [x, y, z] = *vectors.get(vertex)?;
+        Some(Vec3 { x, y, z })
+    }
+
+    // A static step, or a dynamic one over the time dt.
+    pub fn step(&mut self, seat: usize, pick: Pick, dt: Option<f64>) -> StepAnswer {
+        let lent = self.lent;
+        let drape = &mut self.drape[..];
+        let work = &mut self.work[..];
+        let rest = &self.rest[..lent.rest];
+        let drape = &mut drape[..lent.drape];
+        let pins = &self.pins[..lent.pins];
+        let work = &mut work[..lent.work];
+        match dt {
+            None => steps::update_static(self.record, rest, drape, pins, work, seat, pick),
+            Some(dt) => {
+                steps::update_dynamic(self.record, rest, drape, pins, work, seat, pick, dt)
+            }
+        }
+    }
 }

@@ -2,6 +2,7 @@
 // out, each f64 as the hexadecimal digits of its bits.
 #![tactic(auto)]
 
+use crate::print::Bits;
 use elements::rod3_darboux::Rod;
 use elements::{rod3_darboux, spring3};
 use std::io;
@@ -18,14 +19,7 @@ mod steps;
 mod strands;
 
 fn main(rt: HostRuntime) -> io::Result<()> {
-    show_root(&rt, 4.0)?;
-    show_root(&rt, 2.0)?;
-    show_root(&rt, 5e-324)?;
-    show_root(&rt, -0.0)?;
-    show_root(&rt, 0.0)?;
-    show_root(&rt, 1.0 / 0.0)?;
-    show_root(&rt, -1.0)?;
-    show_root(&rt, 0.0 / 0.0)?;
+    show_roots(&rt)?;
     show_stretch(&rt)?;
     show_darboux(&rt)?;
     seats::show(&rt)?;
@@ -34,11 +28,12 @@ fn main(rt: HostRuntime) -> io::Result<()> {
     moves::show(&rt)
 }
 
-// The root of x beside x.
-fn show_root(rt: &impl Print, x: f64) -> io::Result<()> {
-    print::float(rt, b"root ", x)?;
-    print::float(rt, b" = ", roots::sqrt(x))?;
-    print::end(rt)
+// Each root beside its number.
+fn show_roots(rt: &impl Print) -> io::Result<()> {
+    for x in [4.0, 2.0, 5e-324, -0.0, 0.0, f64::INFINITY, -1.0, f64::NAN] {
+        println!(rt; "root {} = {}", Bits(x), Bits(roots::sqrt(x)))?;
+    }
+    Ok(())
 }
 
 // P5: the ends are 0 and (2, 0, 0), the length at rest and the stiffness 1.
@@ -49,11 +44,10 @@ fn show_stretch(rt: &impl Print) -> io::Result<()> {
         at(2.0, 0.0, 0.0),
         1.0,
     );
-    print::float(rt, b"stretch energy ", s.w)?;
-    print::vector(rt, b"\nstretch gradient", s.dw0)?;
-    print::vector(rt, b"\nstretch gradient", s.dw1)?;
-    print::vector(rt, b"\nstretch diagonal", diagonal(s.same))?;
-    print::end(rt)
+    println!(rt; "stretch energy {}", Bits(s.w))?;
+    println!(rt; "stretch gradient {}", Bits(s.dw0))?;
+    println!(rt; "stretch gradient {}", Bits(s.dw1))?;
+    println!(rt; "stretch diagonal {}", Bits(diagonal(s.same)))
 }
 
 fn diagonal(m: Mat3) -> Vec3 {
@@ -74,6 +68,5 @@ fn show_darboux(rt: &impl Print) -> io::Result<()> {
         x0: up,
         x1: up,
     };
-    print::vector(rt, b"darboux vector", rod3_darboux::darboux_rod(rod))?;
-    print::end(rt)
+    println!(rt; "darboux vector {}", Bits(rod3_darboux::darboux_rod(rod)))
 }

@@ -1,45 +1,41 @@
-// Dynamic steps of document 01's strand of two vertices, each run on a new bench.
-use crate::run;
-use crate::run::{Kind, RATIO, Run, WORK};
+// Dynamic steps of document 01's strand of two vertices.
+use crate::run::{self, RATIO, Step};
 use bench::answers::Pick;
-use bench::areas;
 use std::io;
 
 pub fn show(rt: &impl Print) -> io::Result<()> {
-    free(rt, b"dynamic step: dt NaN", 0.0 / 0.0)?;
-    free(rt, b"dynamic step: dt infinite", 1.0 / 0.0)?;
-    free(rt, b"dynamic step: dt -1", -1.0)?;
-    free(rt, b"dynamic step: dt 0", 0.0)?;
-    free(rt, b"dynamic step: dt -0", -0.0)?;
-    show_moves(rt)
+    free(rt, "dynamic step: dt NaN", f64::NAN)?;
+    free(rt, "dynamic step: dt infinite", f64::INFINITY)?;
+    free(rt, "dynamic step: dt -1", -1.0)?;
+    free(rt, "dynamic step: dt 0", 0.0)?;
+    free(rt, "dynamic step: dt -0", -0.0)?;
+    free(rt, "dynamic step: dt 1/32, no pick", 0.03125)?;
+    show_two(rt)
 }
 
-fn show_moves(rt: &impl Print) -> io::Result<()> {
-    free(rt, b"dynamic step: dt 1/32, no pick", 0.03125)?;
-    let half = run::pick(1, 0.5, 0.0);
-    moved(rt, b"dynamic step: dt 0.5, goal 0.5", 0.5, half, true)
+// A dynamic step with the usual pick.
+fn over(dt: f64) -> Step {
+    Step {
+        dt: Some(dt),
+        stale: f64::INFINITY,
+        ..Step::default()
+    }
 }
 
-// A step without a pick.
-fn free(rt: &impl Print, what: &[u8], dt: f64) -> io::Result<()> {
-    moved(rt, what, dt, Pick::Nothing, false)
+// A step without a pick, on a new bench.
+fn free(rt: &impl Print, what: &str, dt: f64) -> io::Result<()> {
+    let pick = Pick::Nothing;
+    run::show_alone(rt, what, Step { pick, ..over(dt) })
 }
 
-// One step, or two with the same pick.
-fn moved(rt: &impl Print, what: &[u8], dt: f64, pick: Pick, again: bool) -> io::Result<()> {
-    run::show(
-        rt,
-        what,
-        Run {
-            ratio: RATIO,
-            byte: 0,
-            seat: 0,
-            pick,
-            kind: Kind::Dynamic(dt),
-            rest: areas::REST,
-            work: WORK,
-            stale: 1.0 / 0.0,
-            again,
-        },
-    )
+// Two steps of one strand. Before the second the opposite fills the work area.
+fn show_two(rt: &impl Print) -> io::Result<()> {
+    let mut bench = run::laid(RATIO, 0);
+    let step = over(0.5);
+    run::show(rt, "dynamic step: dt 0.5, goal 0.5", &mut bench, step)?;
+    let again = Step {
+        stale: f64::NEG_INFINITY,
+        ..step
+    };
+    run::show(rt, "dynamic step: again", &mut bench, again)
 }

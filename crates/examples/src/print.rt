@@ -1,41 +1,33 @@
 // How the examples write what comes out.
-use std::io;
+use bench::refusal;
+use bench::refusal::Refusal;
+use std::{fmt, io};
 use vectors::vec3::Vec3;
 
-pub fn end(rt: &impl Print) -> io::Result<()> {
-    rt.write_all(b"\n")
-}
+// Written as the hexadecimal digits of the bits of its numbers. A NaN has no one pattern, so it is named.
+#[derive(Clone, Copy)]
+pub struct Bits<T>(pub T);
 
-pub fn number(rt: &impl Print, what: &[u8], n: usize) -> io::Result<()> {
-    rt.write_all(what)?;
-    print!(rt; "{n}")
-}
-
-// A line with what a call answers.
-pub fn answer(rt: &impl Print, what: &[u8], k: u8) -> io::Result<()> {
-    rt.write_all(what)?;
-    number(rt, b" = ", k as usize)?;
-    end(rt)
-}
-
-pub fn float(rt: &impl Print, what: &[u8], x: f64) -> io::Result<()> {
-    rt.write_all(what)?;
-    bits(rt, x)
-}
-
-pub fn vector(rt: &impl Print, what: &[u8], v: Vec3) -> io::Result<()> {
-    rt.write_all(what)?;
-    float(rt, b" ", v.x)?;
-    float(rt, b" ", v.y)?;
-    float(rt, b" ", v.z)
-}
-
-// The bits of x. A NaN has no one pattern, so it is named.
-fn bits(rt: &impl Print, x: f64) -> io::Result<()> {
-    if x == x {
-        let pattern = f64::to_bits(x);
-        print!(rt; "{pattern:016x}")
-    } else {
-        rt.write_all(b"NaN")
+impl fmt::Display for Bits<f64> {
+    fn fmt<W: fmt::Write>(&self, f: &mut fmt::Formatter<W>) -> fmt::Result {
+        let x = self.0;
+        if x.is_nan() {
+            write!(f, "NaN")
+        } else {
+            write!(f, "{:016x}", x.to_bits())
+        }
     }
+}
+
+impl fmt::Display for Bits<Vec3> {
+    fn fmt<W: fmt::Write>(&self, f: &mut fmt::Formatter<W>) -> fmt::Result {
+        let v = self.0;
+        write!(f, "{} {} {}", Bits(v.x), Bits(v.y), Bits(v.z))
+    }
+}
+
+// A line with the number of a call's outcome.
+pub fn answer(rt: &impl Print, what: &str, outcome: Result<(), Refusal>) -> io::Result<()> {
+    let number = refusal::told(outcome);
+    println!(rt; "{what} = {number}")
 }

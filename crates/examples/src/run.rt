@@ -1,47 +1,35 @@
-// A step of document 01's strand of two vertices on a new bench.
+// A step of document 01's strand of two vertices.
 use crate::benches::Bench;
-use crate::{benches, print, strands};
+use crate::print::Bits;
+use crate::strands::Strand;
 use bench::answers::{Pick, StepAnswer};
-use bench::seats::{Record, Settings};
-use bench::steps;
-use std::io;
+use bench::seats::Settings;
+use std::{fmt, io};
 use vectors::vec3::Vec3;
-
-// Numbers in the work area.
-pub const WORK: usize = 3264;
 
 // The strand's ratio, 1/1024.
 pub const RATIO: f64 = 0.0009765625;
 
-// Static, or dynamic with its dt.
+// The seat that is stepped, the pick, the time where the step is dynamic, and the number that fills the
+// work area before. It is never finite, since it must not matter.
 #[derive(Clone, Copy)]
-pub enum Kind {
-    Static,
-    Dynamic(f64),
-}
-
-// The strand's ratio, the byte that pins vertex 1's positions, the seat that is stepped, the pick, the
-// step, how many numbers of rest and of work are lent to it, the number that fills the work area before,
-// and whether a second step follows, before which the opposite fills it. It is never finite, since it
-// must not matter.
-#[derive(Clone, Copy)]
-pub struct Run {
-    pub ratio: f64,
-    pub byte: u8,
+pub struct Step {
     pub seat: usize,
     pub pick: Pick,
-    pub kind: Kind,
-    pub rest: usize,
-    pub work: usize,
+    pub dt: Option<f64>,
     pub stale: f64,
-    pub again: bool,
 }
 
-// A bench after a step, and what the step answers.
-#[derive(Drop)]
-struct Outcome {
-    bench: Bench,
-    answer: StepAnswer,
+// A static step of the strand, whose vertex 1 is pulled halfway to vertex 0.
+impl Default for Step {
+    fn default() -> Step {
+        Step {
+            seat: 0,
+            pick: pick(1, 0.5, 0.0),
+            dt: None,
+            stale: f64::NAN,
+        }
+    }
 }
 
 // A pick of the vertex, with a goal in the plane of x and y.
@@ -49,102 +37,60 @@ pub fn pick(vertex: usize, x: f64, y: f64) -> Pick {
     Pick::At(vertex, Vec3 { x, y, z: 0.0 })
 }
 
-pub fn show(rt: &impl Print, what: &[u8], r: Run) -> io::Result<()> {
-    let held = hold(laid(r.ratio), r.byte);
-    let stepped = once(rt, what, r, held, r.stale)?;
-    if r.again {
-        once(rt, b"dynamic step: again", r, stepped, -r.stale)?;
-    }
-    Ok(())
-}
-
-// A new bench with the strand on seat 0.
-fn laid(ratio: f64) -> Bench {
+// A new bench with the strand on seat 0 and the byte as pin of vertex 1's three positions. What these calls
+// answer is not looked at: a step shows whether they were accepted.
+pub fn laid(ratio: f64, byte: u8) -> Bench {
     let settings = Settings {
-        stiff_length: 0.0,
-        stiff_bendtwist0: 0.0,
-        stiff_bendtwist1: 0.0,
-        stiff_bendtwist2: 0.0,
         conv_ratio: ratio,
+        ..Settings::default()
     };
-    let out = benches::load(
-        benches::new(),
-        0,
-        2,
+    let strand = Strand {
         settings,
-        &strands::PAIR,
-        &strands::FRAMES,
-    );
-    out.bench
-}
-
-// The byte as pin of vertex 1's three positions.
-fn hold(b: Bench, byte: u8) -> Bench {
-    let x = benches::pin(b, 0, 1, 0, byte);
-    let y = benches::pin(x.bench, 0, 1, 1, byte);
-    let z = benches::pin(y.bench, 0, 1, 2, byte);
-    z.bench
-}
-
-// What a step answers, and where it leaves vertex 1.
-fn once(rt: &impl Print, what: &[u8], r: Run, b: Bench, stale: f64) -> io::Result<Bench> {
-    let out = stepped(r, b, stale);
-    let answer = out.answer;
-    let bench = out.bench;
-    rt.write_all(what)?;
-    show_answer(rt, answer)?;
-    benches::show_look(rt, b", vertex 1", bench, 0, 2, 3)?;
-    print::end(rt)?;
-    Ok(bench)
-}
-
-// The step, with a work area of stale numbers.
-fn stepped(r: Run, mut b: Bench, stale: f64) -> Outcome {
-    let record = b.record;
-    let rest = b.rest;
-    let mut drape = b.drape;
-    let pins = b.pins;
-    let mut work = [stale; WORK];
-    let answer = step(
-        r,
-        record,
-        strands::first(&rest, r.rest),
-        &mut drape,
-        &pins,
-        strands::first_mut(&mut work, r.work),
-    );
-    b.drape = drape;
-    Outcome { bench: b, answer }
-}
-
-fn step(
-    r: Run,
-    record: Record,
-    rest: &[f64],
-    drape: &mut [f64],
-    pins: &[u8],
-    work: &mut [f64],
-) -> StepAnswer {
-    let seat = r.seat;
-    let pick = r.pick;
-    let kind = r.kind;
-    match kind {
-        Kind::Static => steps::update_static(record, rest, drape, pins, work, seat, pick),
-        Kind::Dynamic(dt) => steps::update_dynamic(record, rest, drape, pins, work, seat, pick, dt),
+        ..Strand::default()
+    };
+    let mut bench = Bench::default();
+    let _ = bench.load(0, strand);
+    for component in 0..3 {
+        let _ = bench.pin(0, 1, component, byte);
     }
+    bench
 }
 
-fn show_answer(rt: &impl Print, answer: StepAnswer) -> io::Result<()> {
-    match answer {
-        StepAnswer::Accepted {
-            energy,
-            ratio,
-            count,
-        } => {
-            print::float(rt, b" = 0, energy ", energy)?;
-            print::number(rt, b", count ", count)?;
-            print::float(rt, b", ratio ", ratio)
+// What the step answers, and where it leaves vertex 1.
+pub fn show(rt: &impl Print, what: &str, bench: &mut Bench, step: Step) -> io::Result<()> {
+    bench.work.fill(step.stale);
+    let answer = Answer(bench.step(step.seat, step.pick, step.dt));
+    print!(rt; "{what} = {answer}")?;
+    if let Some(v) = bench.vector(0, 2, 1) {
+        print!(rt; ", vertex 1 {}", Bits(v))?;
+    }
+    println!(rt)
+}
+
+// The same on a new bench without pins.
+pub fn show_alone(rt: &impl Print, what: &str, step: Step) -> io::Result<()> {
+    let mut bench = laid(RATIO, 0);
+    show(rt, what, &mut bench, step)
+}
+
+// A step's answer as it is written: its number, and what an accepted step reports.
+#[derive(Clone, Copy)]
+struct Answer(StepAnswer);
+
+impl fmt::Display for Answer {
+    fn fmt<W: fmt::Write>(&self, f: &mut fmt::Formatter<W>) -> fmt::Result {
+        match self.0 {
+            StepAnswer::Accepted {
+                energy,
+                ratio,
+                count,
+            } => write!(
+                f,
+                "0, energy {}, count {count}, ratio {}",
+                Bits(energy),
+                Bits(ratio)
+            ),
+            StepAnswer::Refused(refusal) => write!(f, "{}", refusal.number()),
         }
-        StepAnswer::Refused(k) => print::number(rt, b" = ", k as usize),
     }
 }

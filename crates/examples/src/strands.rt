@@ -1,12 +1,28 @@
 // What the runs of the bench lay on its seats.
-ghost use Rattle.std.specs.Prelude.{◌≡◌, ◌≤◌, length};
+ghost use Rattle.std.specs.Prelude.{◌≤◌};
 
 use bench::seats::Settings;
 
-// Two positions, one apart, and their frames.
-pub const PAIR: [f64; 6] = [0.0, 0.0, 0.0, 1.0, 0.0, 0.0];
+// What a load is given: the number of vertices, the settings and the lists of positions and frames.
+#[derive(Clone, Copy)]
+pub struct Strand<'a> {
+    pub count: usize,
+    pub settings: Settings,
+    pub positions: &'a [f64],
+    pub frames: &'a [f64],
+}
 
-pub const FRAMES: [f64; 6] = [0.0, 1.0, 0.0, 0.0, 1.0, 0.0];
+// Two vertices, one apart, which load takes.
+impl Default for Strand<'_> {
+    fn default() -> Self {
+        Strand {
+            count: 2,
+            settings: settings(1.0, 0.5),
+            positions: &[0.0, 0.0, 0.0, 1.0, 0.0, 0.0],
+            frames: &[0.0, 1.0, 0.0, 0.0, 1.0, 0.0],
+        }
+    }
+}
 
 // With this stiffness against stretch and this ratio.
 pub fn settings(stiffness: f64, ratio: f64) -> Settings {
@@ -19,39 +35,21 @@ pub fn settings(stiffness: f64, ratio: f64) -> Settings {
     }
 }
 
-// Settings that load takes.
-pub fn plain() -> Settings {
-    settings(1.0, 0.5)
-}
-
 // 33 vectors along an axis, the first of length 1 and each longer than the one before by more: with
 // row(0, 1.0) as positions, row(1, 0.0) are frames.
 pub fn row(axis: usize, more: f64) -> [f64; 99]
     requires { axis ≤ 2 }
-    ensures { length result ≡ 99 }
 {
     let mut xs = [0.0; 99];
     let mut x = 1.0;
-    let mut i = 0;
-    while i < 33 {
-        xs[3 * i + axis] = x;
-        x = x + more;
-        i += 1;
+    for vector in xs.chunks_exact_mut(3) {
+        vector[axis] = x;
+        x += more;
     }
     xs
 }
 
 // The first n numbers, or all where there are fewer.
-pub fn first<'a>(xs: &'a [f64], n: usize) -> &'a [f64] {
-    if xs.len() < n {
-        return xs;
-    }
-    &xs[0..n]
-}
-
-pub fn first_mut<'a>(xs: &'a mut [f64], n: usize) -> &'a mut [f64] {
-    if xs.len() < n {
-        return xs;
-    }
-    &mut xs[0..n]
+pub fn first(xs: &[f64], n: usize) -> &[f64] {
+    &xs[..n.min(xs.len())]
 }
