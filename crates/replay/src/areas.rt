@@ -1,52 +1,79 @@
-// The areas as they are kept: each with four places past what the bench asks for, so that a longer one
-// can be lent. The expected record and areas stand one after the other in one list of words.
-ghost use Rattle.std.specs.Prelude.{◌≤◌};
+// The record and the areas that the bench is lent.
+use crate::area::{Area, DRAPE, PINS, REST, WORK};
+use crate::difference::Difference;
+use crate::expected::Expected;
+use crate::settings;
+use crate::stored::{Stored, first_other};
+use bench::areas::SEATS;
+use bench::seats::Record;
 
-pub const REST: usize = 1156;
+#[derive(Drop)]
+pub struct Areas {
+    pub record: Record,
+    pub rest: [f64; REST],
+    pub drape: [f64; DRAPE],
+    pub pins: [u8; PINS],
+    pub work: [f64; WORK],
+}
 
-pub const DRAPE: usize = 2308;
+impl Areas {
+    // What a call begins with: record and areas as they are expected, and a work area of which no number
+    // may matter.
+    pub fn ready(expected: &Expected, stale: &[u64; WORK]) -> Areas {
+        Areas {
+            record: expected.record(),
+            rest: expected.rest.map(f64::of),
+            drape: expected.drape.map(f64::of),
+            pins: expected.pins.map(u8::of),
+            work: stale.map(f64::of),
+        }
+    }
 
-pub const PINS: usize = 772;
+    // The first place that is not as expected, or, in the work area past what is free, not as it was.
+    pub fn difference(
+        &self,
+        expected: &Expected,
+        free: usize,
+        stale: &[u64; WORK],
+    ) -> Option<Difference> {
+        self.in_record(expected)
+            .or_else(|| in_area(Area::Rest, &self.rest, &expected.rest))
+            .or_else(|| in_area(Area::Drape, &self.drape, &expected.drape))
+            .or_else(|| in_area(Area::Pins, &self.pins, &expected.pins))
+            .or_else(|| self.in_work(free, stale))
+    }
 
-pub const WORK: usize = 3268;
+    // Seat by seat, the count before the settings.
+    fn in_record(&self, expected: &Expected) -> Option<Difference> {
+        let settings = expected.settings();
+        for seat in 0..SEATS {
+            if !self.record.counts[seat].is(expected.counts[seat]) {
+                return Some(Difference::Place(Area::Counts, seat));
+            }
+            let numbers = settings::numbers(&self.record.settings[seat]);
+            if let Some(i) = first_other(&numbers, &settings[seat]) {
+                let place = settings::NUMBERS * seat + i;
+                return Some(Difference::Place(Area::Settings, place));
+            }
+        }
+        None
+    }
 
-// Where settings, rest, drape and pins begin among the expected words; the counts stand first.
-pub const SETTINGS: usize = 6;
-
-pub const REST_AT: usize = 36;
-
-pub const DRAPE_AT: usize = 1192;
-
-pub const PINS_AT: usize = 3500;
-
-pub const ALL: usize = 4272;
-
-// Words of the longest line that is read.
-pub const LINE: usize = 2048;
-
-// Where the area of this number begins.
-pub fn start(area: u64) -> usize
-    ensures { result ≤ 3500 }
-{
-    match area {
-        0 => 0,
-        1 => SETTINGS,
-        2 => REST_AT,
-        3 => DRAPE_AT,
-        _ => PINS_AT,
+    fn in_work(&self, free: usize, stale: &[u64; WORK]) -> Option<Difference> {
+        self.work
+            .iter()
+            .zip(stale)
+            .enumerate()
+            .skip(free)
+            .find(|(_, (number, word))| !number.is(**word))
+            .map(|(place, _)| Difference::Work(place))
     }
 }
 
-// How many places it has; none where there is no such area.
-pub fn size(area: u64) -> usize
-    ensures { result ≤ 2308 }
-{
-    match area {
-        0 => 6,
-        1 => 30,
-        2 => REST,
-        3 => DRAPE,
-        4 => PINS,
-        _ => 0,
-    }
+fn in_area<T: Stored, const N: usize>(
+    area: Area,
+    places: &[T; N],
+    words: &[u64; N],
+) -> Option<Difference> {
+    first_other(places, words).map(|place| Difference::Place(area, place))
 }

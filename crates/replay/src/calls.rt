@@ -1,119 +1,125 @@
-// The calls of the list but the steps, made on the bench with the areas as they are lent. Each says whether the
-// answer is the stored one.
-use crate::{areas, line, numbers, record, shape};
-use bench::seats::Record;
-use bench::{load, look, pin, unload};
-
-// The record after a call, and whether the answer is the stored one.
-#[derive(Clone, Copy)]
-pub struct Made {
-    pub seats: Record,
-    pub same: bool,
-}
+// The calls on the bench, each with the areas as they are lent.
+use crate::area::Area;
+use crate::areas::Areas;
+use crate::call::{Asked, Call, Load};
+use crate::lent::Lent;
+use crate::stored::{Stored, first_other};
+use bench::answers::{Pick, StepAnswer};
+use bench::refusal::Refusal;
+use bench::{load, look, pin, refusal, steps, unload};
 
 // Numbers of the longest list that a load is handed.
 const LIST: usize = 128;
 
-// Whether the stored answer is this number.
-pub fn said(w: &[u64], number: u8) -> bool {
-    line::at(w, shape::answer(w)) == numbers::wide(number)
-}
+impl Areas {
+    // Makes the call. Whether its answer is the stored one.
+    pub fn make(&mut self, call: &Call<'_>) -> bool {
+        let lent = call.lent;
+        let seat = call.seat;
+        match &call.asked {
+            Asked::Load(load) => told(self.load(lent, seat, load), load.refusal) & is_short(load),
+            Asked::Unload { refusal } => told(self.unload(lent, seat), *refusal),
+            Asked::Pin {
+                vertex,
+                component,
+                byte,
+                refusal,
+            } => told(self.pin(lent, seat, *vertex, *component, *byte), *refusal),
+            Asked::Look {
+                kind,
+                area,
+                place,
+                numbers,
+            } => {
+                are_stored(self.look(lent, seat, *kind), numbers)
+                    & are_stored(self.numbers_at(lent, *area, *place, numbers.len()), numbers)
+            }
+            Asked::Companion { kind, refusal } => told(self.companion(lent, seat, *kind), *refusal),
+            Asked::Step { pick, dt, answer } => answer.is(self.step(lent, seat, *pick, *dt)),
+        }
+    }
 
-pub fn seat(w: &[u64]) -> usize {
-    line::count(w, 5)
-}
+    fn load(&mut self, lent: Lent, seat: usize, load: &Load) -> Result<(), Refusal> {
+        load::load(
+            &mut self.record,
+            &mut self.rest.as_mut_slice()[..lent.rest],
+            &mut self.drape.as_mut_slice()[..lent.drape],
+            &mut self.pins.as_mut_slice()[..lent.pins],
+            seat,
+            load.n,
+            load.settings,
+            &load.positions,
+            &load.frames,
+        )
+    }
 
-// The lists are among the numbers of the line's words.
-pub fn load(
-    seats: Record,
-    rest: &mut [f64],
-    drape: &mut [f64],
-    pins: &mut [u8],
-    w: &[u64],
-) -> Made {
-    let mut numbers = [0.0; areas::LINE];
-    numbers::fill(&mut numbers, w);
-    let frames = shape::past_list(w, shape::POSITIONS);
-    let n = line::count(w, shape::POSITIONS);
-    let m = line::count(w, frames);
-    let out = load::load_value(
-        seats,
-        rest,
-        drape,
-        pins,
-        seat(w),
-        line::count(w, shape::ARGUMENTS),
-        record::settings(w, 7),
-        part(&numbers, shape::POSITIONS + 1, n),
-        part(&numbers, frames + 1, m),
-    );
-    let after = out.seats;
-    Made {
-        seats: after,
-        same: (n <= LIST) & (m <= LIST) & said(w, out.refusal),
+    fn unload(&mut self, lent: Lent, seat: usize) -> Result<(), Refusal> {
+        unload::unload(
+            &mut self.record,
+            &mut self.rest.as_mut_slice()[..lent.rest],
+            &mut self.drape.as_mut_slice()[..lent.drape],
+            &mut self.pins.as_mut_slice()[..lent.pins],
+            seat,
+        )
+    }
+
+    fn pin(
+        &mut self,
+        lent: Lent,
+        seat: usize,
+        vertex: usize,
+        component: usize,
+        byte: u8,
+    ) -> Result<(), Refusal> {
+        let pins = &mut self.pins.as_mut_slice()[..lent.pins];
+        pin::pin(self.record, pins, seat, vertex, component, byte)
+    }
+
+    fn look(&self, lent: Lent, seat: usize, kind: usize) -> &[f64] {
+        let rest = &self.rest[..lent.rest];
+        look::look(self.record, rest, &self.drape[..lent.drape], seat, kind)
+    }
+
+    fn companion(&self, lent: Lent, seat: usize, kind: usize) -> Result<(), Refusal> {
+        let rest = &self.rest[..lent.rest];
+        look::companion(self.record, rest, &self.drape[..lent.drape], seat, kind)
+    }
+
+    fn step(&mut self, lent: Lent, seat: usize, pick: Pick, dt: Option<f64>) -> StepAnswer {
+        let seats = self.record;
+        let rest = &self.rest[..lent.rest];
+        let drape = &mut self.drape.as_mut_slice()[..lent.drape];
+        let pins = &self.pins[..lent.pins];
+        let work = &mut self.work.as_mut_slice()[..lent.work];
+        match dt {
+            None => steps::update_static(seats, rest, drape, pins, work, seat, pick),
+            Some(dt) => steps::update_dynamic(seats, rest, drape, pins, work, seat, pick, dt),
+        }
+    }
+
+    // So many numbers of rest or drape, as they are lent, from a place on; none where there are fewer.
+    fn numbers_at(&self, lent: Lent, area: Area, place: usize, n: usize) -> &[f64] {
+        let numbers = match area {
+            Area::Rest => &self.rest[..lent.rest],
+            Area::Drape => &self.drape[..lent.drape],
+            _ => return &[],
+        };
+        numbers
+            .get(place..)
+            .and_then(|it| it.get(..n))
+            .unwrap_or(&[])
     }
 }
 
-pub fn unload(
-    seats: Record,
-    rest: &mut [f64],
-    drape: &mut [f64],
-    pins: &mut [u8],
-    w: &[u64],
-) -> Made {
-    let out = unload::unload_value(seats, rest, drape, pins, seat(w));
-    let after = out.seats;
-    Made {
-        seats: after,
-        same: said(w, out.refusal),
-    }
+// Whether the stored number is the one that the outcome tells.
+fn told(outcome: Result<(), Refusal>, stored: u64) -> bool {
+    refusal::told(outcome).is(stored)
 }
 
-pub fn pin(seats: Record, pins: &mut [u8], w: &[u64]) -> bool {
-    let vertex = line::count(w, 6);
-    let component = line::count(w, 7);
-    let byte = numbers::byte(line::at(w, 8));
-    said(w, pin::pin(seats, pins, seat(w), vertex, component, byte))
+fn is_short(load: &Load) -> bool {
+    (load.positions.len() <= LIST) & (load.frames.len() <= LIST)
 }
 
-// The numbers at a place of the area of this number, 2 rest, 3 drape.
-fn shown<'a>(rest: &'a [f64], drape: &'a [f64], area: u64, from: usize, n: usize) -> &'a [f64] {
-    if area == 2 {
-        return part(rest, from, n);
-    }
-    part(drape, from, n)
-}
-
-// The n numbers from a place on; none where there are fewer.
-fn part<'a>(xs: &'a [f64], from: usize, n: usize) -> &'a [f64] {
-    if xs.len() < n {
-        return &xs[0..0];
-    }
-    if xs.len() - n < from {
-        return &xs[0..0];
-    }
-    let to = from + n;
-    &xs[from..to]
-}
-
-// The numbers that are handed back are the stored ones, and so are those at the stored place.
-fn seen(w: &[u64], numbers: &[f64], there: &[f64]) -> bool {
-    let words = line::list(w, 9);
-    let n = words.len();
-    (numbers.len() == n)
-        & (there.len() == n)
-        & (numbers::first_other(numbers, words) == n)
-        & (numbers::first_other(there, words) == n)
-}
-
-// A look or its companion.
-pub fn look<'a>(seats: Record, rest: &'a [f64], drape: &'a [f64], w: &[u64]) -> bool {
-    let seat = seat(w);
-    let kind = line::count(w, 6);
-    if line::at(w, 0) == shape::COMPANION {
-        return said(w, look::companion(seats, rest, drape, seat, kind));
-    }
-    let n = line::count(w, 9);
-    let there = shown(rest, drape, line::at(w, 7), line::count(w, 8), n);
-    seen(w, look::look(seats, rest, drape, seat, kind), there)
+fn are_stored(numbers: &[f64], words: &[u64]) -> bool {
+    (numbers.len() == words.len()) & first_other(numbers, words).is_none()
 }

@@ -4,33 +4,35 @@
 
 use std::fs::File;
 use std::io;
+use std::io::BufReader;
 
+mod area;
 mod areas;
+mod call;
 mod calls;
-mod changes;
+mod difference;
+mod event;
+mod expected;
+mod fault;
 mod garbage;
-mod judge;
-mod lend;
-mod line;
-mod numbers;
-mod record;
-mod report;
+mod lent;
+mod lines;
 mod run;
-mod shape;
-mod steps;
+mod settings;
+mod step;
+mod stored;
 mod tally;
-mod turn;
 mod words;
 
 fn main(rt: HostRuntime) -> io::Result<()> {
     match File::open(&rt, "calls") {
-        Ok(file) => replay(&rt, &file),
+        Ok(file) => replay(&rt, file),
         Err(error) => eprintln!(rt; "calls: {error}"),
     }
 }
 
-// The expected record and areas begin as those of a new bench.
-fn replay(rt: &impl Print, file: &File) -> io::Result<()> {
-    let mut expected = [0u64; areas::ALL];
-    report::show(rt, run::run(file, &mut expected)?)
+fn replay(rt: &(impl Print + AllocGlobal), file: File) -> io::Result<()> {
+    let reader = BufReader::new(rt.alloc(), file)?;
+    let tally = run::run(rt.alloc(), reader)?;
+    print!(rt; "{tally}")
 }

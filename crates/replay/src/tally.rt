@@ -1,79 +1,57 @@
-// How many calls were made and how many differ.
-use crate::judge::Verdict;
+// How many calls were made and how many differ, as the program prints it.
+use crate::difference::Difference;
+use std::fmt;
 
-// Calls made and calls that differ, the line and the verdict of the first of these, and how the list
-// came to its end: the line where that is malformed, 0 where it is not.
-#[derive(Clone, Copy)]
+#[derive(Clone, Copy, Default)]
 pub struct Tally {
-    pub calls: u64,
-    pub differ: u64,
-    pub line: usize,
-    pub first: Verdict,
-    pub malformed: usize,
+    calls: u64,
+    differ: u64,
+    first: Option<First>,
+    // The line where the list is malformed or ended early.
+    malformed: Option<usize>,
+}
+
+// The first call that differs.
+#[derive(Clone, Copy)]
+struct First {
+    line: usize,
+    difference: Difference,
 }
 
 impl Tally {
-    pub fn new() -> Tally {
+    // The call of this line was made.
+    pub fn count(&mut self, line: usize, difference: Option<Difference>) {
+        self.calls = self.calls.saturating_add(1);
+        if let Some(difference) = difference {
+            self.differ = self.differ.saturating_add(1);
+            self.first = self.first.or(Some(First { line, difference }));
+        }
+    }
+
+    // The list's end, where it is malformed at this line.
+    pub fn malformed_at(self, line: usize) -> Tally {
         Tally {
-            calls: 0,
-            differ: 0,
-            line: 0,
-            first: Verdict::Same,
-            malformed: 0,
+            malformed: Some(line),
+            ..self
         }
     }
 }
 
-// One call more, which differs.
-fn differing(t: Tally, line: usize, verdict: Verdict) -> Tally {
-    let calls = std::num::wrapping_add_u64(t.calls, 1);
-    let differ = std::num::wrapping_add_u64(t.differ, 1);
-    if t.differ == 0 {
-        return Tally {
+impl fmt::Display for Tally {
+    fn fmt<W: fmt::Write>(&self, f: &mut fmt::Formatter<W>) -> fmt::Result {
+        let Tally {
             calls,
             differ,
-            line,
-            first: verdict,
-            malformed: 0,
-        };
-    }
-    let first = t.first;
-    Tally {
-        calls,
-        differ,
-        line: t.line,
-        first,
-        malformed: 0,
-    }
-}
-
-// The tally with the verdict on this line.
-pub fn counted(t: Tally, line: usize, verdict: Verdict) -> Tally {
-    let first = t.first;
-    match verdict {
-        Verdict::Same => Tally {
-            calls: std::num::wrapping_add_u64(t.calls, 1),
-            differ: t.differ,
-            line: t.line,
             first,
-            malformed: 0,
-        },
-        Verdict::Change | Verdict::End => t,
-        Verdict::Malformed => Tally {
-            calls: t.calls,
-            differ: t.differ,
-            line: t.line,
-            first,
-            malformed: line,
-        },
-        _ => differing(t, line, verdict),
-    }
-}
-
-// Whether more lines are to be read.
-pub fn goes_on(verdict: Verdict) -> bool {
-    match verdict {
-        Verdict::End | Verdict::Malformed => false,
-        _ => true,
+            malformed,
+        } = self;
+        writeln!(f, "{calls} calls, {differ} differ")?;
+        if let Some(First { line, difference }) = first {
+            writeln!(f, "first difference: line {line}, {difference}")?;
+        }
+        if let Some(line) = malformed {
+            writeln!(f, "malformed or ended early: line {line}")?;
+        }
+        Ok(())
     }
 }

@@ -1,0 +1,149 @@
+// A call that a line stores: what is lent, what is asked, and what the reference answered.
+use crate::area::Area;
+use crate::event::Kind;
+use crate::fault::{Fault, Malformed};
+use crate::lent::Lent;
+use crate::settings;
+use crate::step::StoredStep;
+use crate::stored::Stored;
+use crate::words::Words;
+use bench::answers::Pick;
+use bench::seats::Settings;
+use std::alloc::Global;
+use vectors::vec3::Vec3;
+
+#[derive(Drop)]
+pub struct Call<'a> {
+    pub lent: Lent,
+    pub seat: usize,
+    pub asked: Asked<'a>,
+}
+
+// What is asked, with the answer; a refusal is the number of it, 0 for none.
+#[derive(Drop)]
+pub enum Asked<'a> {
+    Load(Load),
+    Unload {
+        refusal: u64,
+    },
+    Pin {
+        vertex: usize,
+        component: usize,
+        byte: u8,
+        refusal: u64,
+    },
+    // The numbers that are handed back, and where they stand.
+    Look {
+        kind: usize,
+        area: Area,
+        place: usize,
+        numbers: &'a [u64],
+    },
+    Companion {
+        kind: usize,
+        refusal: u64,
+    },
+    // A static step has no time.
+    Step {
+        pick: Pick,
+        dt: Option<f64>,
+        answer: StoredStep,
+    },
+}
+
+#[derive(Drop)]
+pub struct Load {
+    pub n: usize,
+    pub settings: Settings,
+    pub positions: Vec<f64>,
+    pub frames: Vec<f64>,
+    pub refusal: u64,
+}
+
+impl<'a> Call<'a> {
+    pub fn read(alloc: Global, kind: Kind, words: &mut Words<'a>) -> Result<Call<'a>, Fault> {
+        Ok(Call {
+            lent: Lent::read(words)?,
+            seat: words.value()?,
+            asked: Asked::read(alloc, kind, words)?,
+        })
+    }
+
+    // How much of the work area the call may change: what it is lent, for a step that is not declined
+    // with 1 to 6.
+    pub fn free_work(&self) -> usize {
+        match &self.asked {
+            Asked::Step { answer, .. } if !(1..=6).contains(&answer.refusal) => self.lent.work,
+            _ => 0,
+        }
+    }
+}
+
+impl<'a> Asked<'a> {
+    fn read(alloc: Global, kind: Kind, words: &mut Words<'a>) -> Result<Asked<'a>, Fault> {
+        Ok(match kind {
+            Kind::Load => Asked::Load(Load::read(alloc, words)?),
+            Kind::Unload => Asked::Unload {
+                refusal: words.word()?,
+            },
+            Kind::Pin => Asked::Pin {
+                vertex: words.value()?,
+                component: words.value()?,
+                byte: words.value()?,
+                refusal: words.word()?,
+            },
+            Kind::Look => Asked::Look {
+                kind: words.value()?,
+                area: Area::try_from(words.word()?)?,
+                place: words.value()?,
+                numbers: words.list()?,
+            },
+            Kind::Companion => Asked::Companion {
+                kind: words.value()?,
+                refusal: words.word()?,
+            },
+            Kind::Static => Asked::Step {
+                pick: pick(words)?,
+                dt: None,
+                answer: StoredStep::read(words)?,
+            },
+            Kind::Dynamic => Asked::Step {
+                pick: pick(words)?,
+                dt: Some(words.value()?),
+                answer: StoredStep::read(words)?,
+            },
+        })
+    }
+}
+
+impl Load {
+    fn read(alloc: Global, words: &mut Words<'_>) -> Result<Load, Fault> {
+        Ok(Load {
+            n: words.value()?,
+            settings: settings::of(words.take()?),
+            positions: numbers(alloc, words.list()?)?,
+            frames: numbers(alloc, words.list()?)?,
+            refusal: words.word()?,
+        })
+    }
+}
+
+fn numbers(alloc: Global, words: &[u64]) -> Result<Vec<f64>, Fault> {
+    Ok(words.iter().map(|word| f64::of(*word)).collect(alloc)?)
+}
+
+// Vertex and goal, if the line has them.
+fn pick(words: &mut Words<'_>) -> Result<Pick, Malformed> {
+    match words.word()? {
+        0 => Ok(Pick::Nothing),
+        1 => Ok(Pick::At(
+            words.value()?,
+            Vec3 {
+                x: words.value()?,
+                y: words.value()?,
+                z: words.value()?,
+            },
+        )),
+        _ => Err(Malformed),
+    }
+}
