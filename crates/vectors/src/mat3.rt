@@ -57,22 +57,11 @@ pub fn from_identity() -> Mat3
 pub fn from_diagonal(d: Vec3) -> Mat3
     ensures { result ≡ mat3_diagonal d }
 {
+    let zero = Vec3::default();
     Mat3 {
-        r0: Vec3 {
-            x: d.x,
-            y: 0.0,
-            z: 0.0,
-        },
-        r1: Vec3 {
-            x: 0.0,
-            y: d.y,
-            z: 0.0,
-        },
-        r2: Vec3 {
-            x: 0.0,
-            y: 0.0,
-            z: d.z,
-        },
+        r0: Vec3 { x: d.x, ..zero },
+        r1: Vec3 { y: d.y, ..zero },
+        r2: Vec3 { z: d.z, ..zero },
     }
 }
 

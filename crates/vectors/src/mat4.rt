@@ -56,10 +56,8 @@ pub fn from_mat3_adding_w(m: Mat3, w: f64) -> Mat4
             w: 0.0,
         },
         c3: Vec4 {
-            x: 0.0,
-            y: 0.0,
-            z: 0.0,
             w,
+            ..Vec4::default()
         },
     }
 }
