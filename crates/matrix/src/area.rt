@@ -4,6 +4,8 @@ ghost use Rattle.std.specs.Prelude.{◌≡◌, ℕ, ◌≤◌};
 ghost use Rattle.matrix.specs.Rows.{rows3};
 ghost use Rattle.matrix.specs.Area.{place_positions, place_frames};
 
+use crate::vertices::MOST;
+
 pub const R: usize = 2464;
 
 pub const U: usize = 2592;
@@ -23,8 +25,13 @@ pub const NUMBERS: usize = 3264;
 
 pub type Work = [f64; NUMBERS];
 
-// Three numbers for each of 32 vertices.
-pub type Vectors = [f64; 96];
+// Three numbers for each of as many vertices as a strand may have.
+pub const VECTORS: usize = 3 * MOST;
+
+pub type Vectors = [f64; VECTORS];
+
+// One number for each.
+pub type Lengths = [f64; MOST];
 
 // The staged positions.
 pub fn positions(work: &Work) -> &Vectors

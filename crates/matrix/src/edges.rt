@@ -6,10 +6,10 @@ ghost use Rattle.matrix.specs.Area.{place_positions};
 ghost use Rattle.matrix.specs.HairSystem.{shape, staged_shape};
 ghost use Rattle.matrix.specs.Edges.{length_at, edge_lengths, frame_at, frames_at};
 
-use crate::area;
-use crate::area::Work;
+use crate::area::{Lengths, Work};
 use crate::rows::Row;
-use crate::vertices::Vertices;
+use crate::vertices::{MOST, Vertices};
+use crate::{area, rows};
 use elements::rod3_darboux;
 use elements::rod3_darboux::EdgeFrame;
 use vectors::edge3;
@@ -28,17 +28,16 @@ fn length_at(xyz: &[f64], n: Vertices, i: usize) -> f64
     requires xyz_long { 3 * n.count ≤ length xyz.now }
     ensures { result ≡ length_at (rows3 xyz.now 0 n.count) i }
 {
-    let p0 = Vec3::load(xyz, 3 * i);
-    let p1 = Vec3::load(xyz, 3 * i + 3);
+    let (p0, p1) = rows::pair(xyz, 3 * i);
     edge3::length(p0, p1).value
 }
 
 // The lengths of all edges, and 0 after them.
-pub fn edge_lengths(xyz: &[f64], n: Vertices) -> [f64; 32]
+pub fn edge_lengths(xyz: &[f64], n: Vertices) -> Lengths
     requires { 3 * n.count ≤ length xyz.now }
     ensures { result ≡ edge_lengths (n.count - 1) (rows3 xyz.now 0 n.count) }
 {
-    let mut lengths = [0.0; 32];
+    let mut lengths = [0.0; MOST];
     for i in 0..n.count - 1 {
         lengths[i] = length_at(xyz, n, i);
     }
@@ -53,8 +52,7 @@ fn frame_at(xyz: &[f64], framex: &[f64], n: Vertices, i: usize, len: f64) -> Edg
     requires len_value { len ≡ length_at (rows3 xyz.now 0 n.count) i }
     ensures { result ≡ frame_at (shape (rows3 xyz.now 0 n.count) (rows3 framex.now 0 n.count)) i }
 {
-    let p0 = Vec3::load(xyz, 3 * i);
-    let p1 = Vec3::load(xyz, 3 * i + 3);
+    let (p0, p1) = rows::pair(xyz, 3 * i);
     let x = Vec3::load(framex, 3 * i);
     rod3_darboux::edge_frame_of_length(p0, p1, x, len)
 }

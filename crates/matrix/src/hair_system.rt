@@ -9,11 +9,10 @@ ghost use Rattle.matrix.specs.System.{system_at};
 ghost use Rattle.matrix.specs.Edges.{length_at, edge_lengths, bend_between, stretch_by, stretches_by};
 ghost use Rattle.matrix.specs.HairSystem.{stretch_element, bend_element, shape, staged_shape, bends, plus_gradient, plus_block, plus_element, plus_elements, sum_energies, assembled, hair_energy, hair_system};
 
-use crate::area::Work;
+use crate::area::{Lengths, Work};
 use crate::edges::EdgeFrames;
-use crate::rows::Row;
 use crate::vertices::Vertices;
-use crate::{area, edges, slice_of_array, system};
+use crate::{area, edges, rows, slice_of_array, system};
 use elements::rod3_darboux::bend;
 use elements::rod3_darboux::bend::{Bend, BendRow};
 use elements::spring3::Stretch;
@@ -29,8 +28,7 @@ fn stretch_at(work: &Work, n: Vertices, i: usize, k: f64, ini: f64, def: f64) ->
     requires def_value { def ≡ length_at (rows3 work.now place_positions n.count) i }
     ensures { result ≡ stretch_by (rows3 work.now place_positions n.count) k i ini }
 {
-    let p0 = Vec3::load(work, area::POSITIONS + 3 * i);
-    let p1 = Vec3::load(work, area::POSITIONS + 3 * i + 3);
+    let (p0, p1) = rows::pair(work, area::POSITIONS + 3 * i);
     spring3::stretch_of_length(k, p0, p1, def, ini)
 }
 
@@ -94,14 +92,7 @@ fn add_bend(work: &mut Work, n: Vertices, k: usize, e: Bend)
 // All stretch elements upward, added to the system, and their energies to w; the edges' lengths at
 // rest and as they are staged are known.
 #[tactic(auto, unfolding(crate::specs::Edges::stretches_by))]
-fn add_stretches(
-    work: &mut Work,
-    n: Vertices,
-    ini: &[f64; 32],
-    def: &[f64; 32],
-    k: f64,
-    w: f64,
-) -> f64
+fn add_stretches(work: &mut Work, n: Vertices, ini: &Lengths, def: &Lengths, k: f64, w: f64) -> f64
     requires def_value { def.now ≡ edge_lengths (n.count - 1) (rows3 work.old place_positions n.count) }
     ensures value { result ≡ sum_energies w (stretches_by n.count ini.now (rows3 work.old place_positions n.count) k) }
     ensures work_after { system_at n.count work.new ≡ plus_elements n.count (stretches_by n.count ini.now (rows3 work.old place_positions n.count) k) (system_at n.count work.old) }
@@ -123,8 +114,8 @@ fn add_bends(
     n: Vertices,
     rest: &[f64],
     axes: &[f64],
-    ini: &[f64; 32],
-    def: &[f64; 32],
+    ini: &Lengths,
+    def: &Lengths,
     k: Vec3,
     w: f64,
 ) -> f64

@@ -1,6 +1,9 @@
 // How many vertices a strand has.
 ghost use Rattle.std.specs.Prelude.{◌≡◌, ◌≤◌, ◌↔◌, IfSome, IsSome};
 
+// The most that one has.
+pub const MOST: usize = 32;
+
 // From 2 to 32.
 #[derive(Clone, Copy)]
 pub struct Vertices {
@@ -14,7 +17,7 @@ impl Vertices {
         ensures value { IfSome result (λ n. n.count ≡ count) }
         ensures variant { IsSome result ↔ ((2 ≤ count) × (count ≤ 32)) }
     {
-        if (2 <= count) & (count <= 32) {
+        if (2..=MOST).contains(&count) {
             return Some(Vertices { count });
         }
         None

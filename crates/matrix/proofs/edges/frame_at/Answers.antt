@@ -14,8 +14,8 @@ returns c =
     simp (
       c.edge_frame_of_length.ensures,
       c.load-x.ensures,
-      c.load-p1.ensures,
-      c.load-p0.ensures,
+      c.pair.ensures.second,
+      c.pair.ensures.first,
       vec3_at_lem xyz 0 n i (3 * i) (omega arith) (omega arith),
       vec3_at_lem xyz 0 n (i + 1) (3 * i + 3) (omega arith) (omega arith),
       vec3_at_lem c.args.framex.now 0 n i (3 * i) (omega arith) (omega arith),

@@ -12,4 +12,4 @@ returns c =
     let xyz = c.args.xyz.now in
     let n = c.args.n.count in
     let i = c.args.i in
-    simp (c.length.ensures, c.load-p1.ensures, c.load-p0.ensures, vec3_at_lem xyz 0 n i (3 * i) (omega arith) (omega arith), vec3_at_lem xyz 0 n (i + 1) (3 * i + 3) (omega arith) (omega arith))
+    simp (c.length.ensures, c.pair.ensures.second, c.pair.ensures.first, vec3_at_lem xyz 0 n i (3 * i) (omega arith) (omega arith), vec3_at_lem xyz 0 n (i + 1) (3 * i + 3) (omega arith) (omega arith))

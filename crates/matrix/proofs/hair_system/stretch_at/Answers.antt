@@ -15,8 +15,8 @@ returns c =
     let i = c.args.i in
     simp (
       c.stretch_of_length.ensures,
-      c.load-p1.ensures,
-      c.load-p0.ensures,
+      c.pair.ensures.second,
+      c.pair.ensures.first,
       vec3_at_lem w place_positions n i (place_positions + 3 * i) (omega arith) (omega arith),
       vec3_at_lem w place_positions n (i + 1) (place_positions + 3 * i + 3) (omega arith) (omega arith),
     )
