@@ -8,7 +8,7 @@ ghost use Rattle.matrix.specs.Edges.{length_at, edge_lengths, frame_at, frames_a
 
 use crate::area::{Lengths, Work};
 use crate::rows::Row;
-use crate::vertices::{MOST, Vertices};
+use crate::vertices::{Edge, MOST, Vertices};
 use crate::{area, rows};
 use elements::rod3_darboux;
 use elements::rod3_darboux::EdgeFrame;
@@ -22,13 +22,12 @@ pub struct EdgeFrames {
     pub def: EdgeFrame,
 }
 
-// The length of the edge from vertex i.
-fn length_at(xyz: &[f64], n: Vertices, i: usize) -> f64
-    requires i_bound { i + 1 < n.count }
-    requires xyz_long { 3 * n.count ≤ length xyz.now }
-    ensures { result ≡ length_at (rows3 xyz.now 0 n.count) i }
+// Its length.
+fn length_at(xyz: &[f64], e: Edge) -> f64
+    requires { 3 * e.n.count ≤ length xyz.now }
+    ensures { result ≡ length_at (rows3 xyz.now 0 e.n.count) e.from }
 {
-    let (p0, p1) = rows::pair(xyz, 3 * i);
+    let (p0, p1) = rows::pair(xyz, 3 * e.from);
     edge3::length(p0, p1).value
 }
 
@@ -39,45 +38,35 @@ pub fn edge_lengths(xyz: &[f64], n: Vertices) -> Lengths
 {
     let mut lengths = [0.0; MOST];
     for i in 0..n.count - 1 {
-        lengths[i] = length_at(xyz, n, i);
+        lengths[i] = length_at(xyz, Edge { n, from: i });
     }
     lengths
 }
 
-// The edge from vertex i; its length is known.
-fn frame_at(xyz: &[f64], framex: &[f64], n: Vertices, i: usize, len: f64) -> EdgeFrame
-    requires i_bound { i + 1 < n.count }
-    requires xyz_long { 3 * n.count ≤ length xyz.now }
-    requires framex_long { 3 * n.count ≤ length framex.now }
-    requires len_value { len ≡ length_at (rows3 xyz.now 0 n.count) i }
-    ensures { result ≡ frame_at (shape (rows3 xyz.now 0 n.count) (rows3 framex.now 0 n.count)) i }
+// The edge with its frame; its length is known.
+fn frame_at(xyz: &[f64], framex: &[f64], e: Edge, len: f64) -> EdgeFrame
+    requires xyz_long { 3 * e.n.count ≤ length xyz.now }
+    requires framex_long { 3 * e.n.count ≤ length framex.now }
+    requires len_value { len ≡ length_at (rows3 xyz.now 0 e.n.count) e.from }
+    ensures { result ≡ frame_at (shape (rows3 xyz.now 0 e.n.count) (rows3 framex.now 0 e.n.count)) e.from }
 {
-    let (p0, p1) = rows::pair(xyz, 3 * i);
-    let x = Vec3::load(framex, 3 * i);
+    let (p0, p1) = rows::pair(xyz, 3 * e.from);
+    let x = Vec3::load(framex, 3 * e.from);
     rod3_darboux::edge_frame_of_length(p0, p1, x, len)
 }
 
-// The edge from vertex i in both shapes, by its lengths there; `rest` and `axes` are the positions and
+// The edge in both shapes, by its lengths there; `rest` and `axes` are the positions and
 // the x axes at rest.
 #[tactic(auto, unfolding(crate::specs::HairSystem::staged_shape, crate::specs::Edges::frames_at))]
-pub fn frames_at(
-    work: &Work,
-    rest: &[f64],
-    axes: &[f64],
-    n: Vertices,
-    i: usize,
-    ini: f64,
-    def: f64,
-) -> EdgeFrames
-    requires i_bound { i + 1 < n.count }
-    requires rest_long { 3 * n.count ≤ length rest.now }
-    requires axes_long { 3 * n.count ≤ length axes.now }
-    requires ini_value { ini ≡ length_at (rows3 rest.now 0 n.count) i }
-    requires def_value { def ≡ length_at (rows3 work.now place_positions n.count) i }
-    ensures { result ≡ frames_at (shape (rows3 rest.now 0 n.count) (rows3 axes.now 0 n.count)) (staged_shape n.count work.now) i }
+pub fn frames_at(work: &Work, rest: &[f64], axes: &[f64], e: Edge, ini: f64, def: f64) -> EdgeFrames
+    requires rest_long { 3 * e.n.count ≤ length rest.now }
+    requires axes_long { 3 * e.n.count ≤ length axes.now }
+    requires ini_value { ini ≡ length_at (rows3 rest.now 0 e.n.count) e.from }
+    requires def_value { def ≡ length_at (rows3 work.now place_positions e.n.count) e.from }
+    ensures { result ≡ frames_at (shape (rows3 rest.now 0 e.n.count) (rows3 axes.now 0 e.n.count)) (staged_shape e.n.count work.now) e.from }
 {
     EdgeFrames {
-        ini: frame_at(rest, axes, n, i, ini),
-        def: frame_at(area::positions(work), area::frames(work), n, i, def),
+        ini: frame_at(rest, axes, e, ini),
+        def: frame_at(area::positions(work), area::frames(work), e, def),
     }
 }

@@ -11,7 +11,7 @@ ghost use Rattle.matrix.specs.HairSystem.{stretch_element, bend_element, shape, 
 
 use crate::area::{Lengths, Work};
 use crate::edges::EdgeFrames;
-use crate::vertices::Vertices;
+use crate::vertices::{Edge, Vertices};
 use crate::{area, edges, rows, slice_of_array, system};
 use elements::rod3_darboux::bend;
 use elements::rod3_darboux::bend::{Bend, BendRow};
@@ -22,13 +22,12 @@ use vectors::vec3::Vec3;
 use vectors::vec4::Vec4;
 use vectors::{mat4, vec4};
 
-// The stretch of the edge from vertex i to the next, by its lengths at rest and as it is staged.
-fn stretch_at(work: &Work, n: Vertices, i: usize, k: f64, ini: f64, def: f64) -> Stretch
-    requires i_bound { i + 1 < n.count }
-    requires def_value { def ≡ length_at (rows3 work.now place_positions n.count) i }
-    ensures { result ≡ stretch_by (rows3 work.now place_positions n.count) k i ini }
+// The stretch of the edge, by its lengths at rest and as it is staged.
+fn stretch_at(work: &Work, e: Edge, k: f64, ini: f64, def: f64) -> Stretch
+    requires { def ≡ length_at (rows3 work.now place_positions e.n.count) e.from }
+    ensures { result ≡ stretch_by (rows3 work.now place_positions e.n.count) k e.from ini }
 {
-    let (p0, p1) = rows::pair(work, area::POSITIONS + 3 * i);
+    let (p0, p1) = rows::pair(work, area::POSITIONS + 3 * e.from);
     spring3::stretch_of_length(k, p0, p1, def, ini)
 }
 
@@ -100,7 +99,7 @@ fn add_stretches(work: &mut Work, n: Vertices, ini: &Lengths, def: &Lengths, k: 
 {
     let mut sum = w;
     for i in 0..n.count - 1 {
-        let e = stretch_at(work, n, i, k, ini[i], def[i]);
+        let e = stretch_at(work, Edge { n, from: i }, k, ini[i], def[i]);
         sum += e.w;
         add_stretch(work, n, i, e);
     }
@@ -128,9 +127,10 @@ fn add_bends(
     ensures after_vectors_kept { after_vectors work.new ≡ after_vectors work.old }
 {
     let mut sum = w;
-    let mut a = edges::frames_at(work, rest, axes, n, 0, ini[0], def[0]);
+    let mut a = edges::frames_at(work, rest, axes, Edge { n, from: 0 }, ini[0], def[0]);
     for i in 0..n.count - 2 {
-        let b = edges::frames_at(work, rest, axes, n, i + 1, ini[i + 1], def[i + 1]);
+        let next = Edge { n, from: i + 1 };
+        let b = edges::frames_at(work, rest, axes, next, ini[i + 1], def[i + 1]);
         let e = bend_between(a, b, k);
         sum += e.w;
         add_bend(work, n, i, e);

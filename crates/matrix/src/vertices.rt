@@ -1,5 +1,5 @@
-// How many vertices a strand has.
-ghost use Rattle.std.specs.Prelude.{◌≡◌, ◌≤◌, ◌↔◌, IfSome, IsSome};
+// How many vertices a strand has, and its edges.
+ghost use Rattle.std.specs.Prelude.{◌≡◌, ◌+◌, ◌≤◌, ◌<◌, ◌↔◌, IfSome, IsSome};
 
 // The most that one has.
 pub const MOST: usize = 32;
@@ -22,4 +22,12 @@ impl Vertices {
         }
         None
     }
+}
+
+// The edge of a strand from one vertex to the next.
+#[derive(Clone, Copy)]
+pub struct Edge {
+    pub n: Vertices,
+    pub from: usize,
+    ghost there: { from + 1 < n.count },
 }

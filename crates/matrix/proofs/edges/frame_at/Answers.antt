@@ -9,8 +9,8 @@ pub returns : goal.returns
 unfolding frame_at length_at
 returns c =
     let xyz = c.args.xyz.now in
-    let n = c.args.n.count in
-    let i = c.args.i in
+    let n = c.args.e.n.count in
+    let i = c.args.e.from in
     simp (
       c.edge_frame_of_length.ensures,
       c.load-x.ensures,

@@ -13,8 +13,8 @@ use Rattle.matrix.proofs.hair_system.add_stretches.Goals as goal
 pub loop-i-init : goal.loop-i-init
 loop-i-init c = gathered_none _ _ _ _ c.told-work
 
-pub stretch_at-e-requires-clause-def_value : goal.stretch_at-e-requires-clause-def_value
-stretch_at-e-requires-clause-def_value c =
+pub stretch_at-e-requires : goal.stretch_at-e-requires
+stretch_at-e-requires c =
     let a = c.args in
     let l = c.loop-i in
     length_in (a.n.count - 1) _ l.i c.requires.def_value (rows3_kept a.work.now l.work l.invariant.after place_positions a.n.count (omega arith)) (omega arith) (omega arith)

@@ -11,8 +11,8 @@ pub returns : goal.returns
 unfolding stretch_by length_at
 returns c =
     let w = c.args.work.now in
-    let n = c.args.n.count in
-    let i = c.args.i in
+    let n = c.args.e.n.count in
+    let i = c.args.e.from in
     simp (
       c.stretch_of_length.ensures,
       c.pair.ensures.second,
@@ -20,4 +20,4 @@ returns c =
       vec3_at_lem w place_positions n i (place_positions + 3 * i) (omega arith) (omega arith),
       vec3_at_lem w place_positions n (i + 1) (place_positions + 3 * i + 3) (omega arith) (omega arith),
     )
-    (stretch_of_own_length _ _ _ _ _ (c.requires.def_value ∙ norm_reversed _ _))
+    (stretch_of_own_length _ _ _ _ _ (c.requires ∙ norm_reversed _ _))
