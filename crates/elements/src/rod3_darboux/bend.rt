@@ -182,7 +182,6 @@ fn coupled(n0: BendNode, n1: BendNode, n2: BendNode, kt: Vec3) -> Couplings
 
 // v are the couplings with the first twist, u those with the second. Block (i, j) has that of vertex i
 // with twist j as its last column and that of vertex j with twist i as its last row.
-#[tactic(auto, unfolding(crate::specs::Bend::approx_hessian_of, crate::specs::Bend::bend_energy, crate::specs::Square::square, crate::specs::Bend::entrywise, crate::specs::Bend::bend_row0, crate::specs::Bend::bend_row1, crate::specs::Bend::bend_row2, vectors::specs::Vec3::vec3_dot))]
 fn approx_hessian(d: DarbouxGradient, k: Vec3, darboux0: Vec3) -> Bend
     ensures { result ≡ approx_hessian_of d k darboux0 }
 {
