@@ -12,6 +12,7 @@ use Rattle.matrix.specs.Parts.{Apart, part, put, table}
 use Rattle.matrix.proofs.Parts.{length_table, table_ext, table_snoc, table_of, get_or_table, length_put, get_or_part, get_or_outside, get_or_inside, put_append, put_none, put_part, part_put_same}
 
 -- how an A stands in a list, as so many numbers
+-- Not laws of the trait Row, which has three of these fields: it would ask them of blocks, too, and no proof needs those
 pub record Width (A : Type 0) : Type 0 where
   pub wide : ℕ
   pub numbers : A → List Float

@@ -23,6 +23,7 @@ pub const VELOCITIES: usize = 3168;
 // How many numbers it has in all.
 pub const NUMBERS: usize = 3264;
 
+// One array with places and no struct of parts, as document 01 has it.
 pub type Work = [f64; NUMBERS];
 
 // Three numbers for each of as many vertices as a strand may have.
@@ -33,7 +34,7 @@ pub type Vectors = [f64; VECTORS];
 // One number for each.
 pub type Lengths = [f64; MOST];
 
-// The staged positions.
+// The staged positions. Not one function of a place with `frames`: each has its place in its clause.
 pub fn positions(work: &Work) -> &Vectors
     ensures { (n : ℕ) → n ≤ 32 → rows3 result.now 0 n ≡ rows3 work.now place_positions n }
 {

@@ -62,6 +62,7 @@ fn iterate(work: &mut Work, n: Vertices, first: f64, tolerance: f64, limit: usiz
     let mut rho = first;
     let mut count = 0;
     let mut square = 0.0;
+    // Document 01 has the solve as a loop that ends by `break`.
     loop {
         if limit <= count {
             let ratio = roots::sqrt(square);

@@ -41,6 +41,7 @@ fn bend_between(a: EdgeFrames, b: EdgeFrames, k: Vec3) -> Bend
 }
 
 // One vertex i of the two from k on: its gradient, with 0 for the twist, and its blocks with both.
+// Apart from `add_bend_row`: a loop over a run of blocks would need its definition and an invariant.
 fn add_stretch_row(work: &mut Work, n: Vertices, i: usize, k: usize, g: Vec3, b0: Mat4, b1: Mat4)
     requires k_bound { k + 1 < n.count }
     requires k_le_i { (k ≤ i) × (i ≤ k + 1) }
@@ -149,7 +150,7 @@ fn clear(work: &mut Work, n: Vertices)
 }
 
 // The system of the strand whose shape is staged, from its rest positions and frames; its energy is
-// answered.
+// answered. `rest` and `axes` are slices: array types would ask more of callers.
 pub fn wdwddw_hair_system(
     work: &mut Work,
     n: Vertices,
@@ -165,6 +166,7 @@ pub fn wdwddw_hair_system(
     ensures after_vectors_kept { after_vectors work.new ≡ after_vectors work.old }
 {
     clear(work, n);
+    // Two arrays: each is what one function makes of one shape.
     let ini = edges::edge_lengths(rest, n);
     let def = edges::edge_lengths(area::positions(work), n);
     let w = add_stretches(work, n, &ini, &def, stretch, 0.0);

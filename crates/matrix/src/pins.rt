@@ -26,6 +26,7 @@ pub fn unless_pinned<T: Copy>(pin: u8, old: T, new: T) -> T
 }
 
 // The row v with 0 where the pins of vertex i pin.
+// A trait with the bench's, of a Vec3 and for the old numbers, would have in both the lines that are here.
 #[tactic(auto, unfolding(crate::specs::Pins::row_unless_fixed))]
 fn row_unless_fixed(pins: &[u8], i: usize, v: Vec4) -> Vec4
     requires { 4 * i + 4 ≤ length pins.now }
@@ -124,7 +125,7 @@ pub(crate) fn set_fixed_bc(work: &mut Work, pins: &[u8], n: Vertices)
     }
 }
 
-// The whole system of n vertices gets its pins.
+// The whole system of n vertices gets its pins, a slice: an array type would ask more of callers.
 pub fn fix_system(work: &mut Work, pins: &[u8], n: Vertices)
     requires pins_long { 4 * n.count ≤ length pins.now }
     ensures work_after { system_at n.count work.new ≡ with_pins n.count pins.now (system_at n.count work.old) }

@@ -43,6 +43,7 @@ pub fn copy(work: &mut [f64], to: usize, from: usize, n: usize)
 }
 
 // The vector at `to` and alpha times the one at `from`.
+// One function over a closure for this and the two below would need a definition of what that is told.
 pub fn add_scaled_vector(work: &mut [f64], to: usize, alpha: f64, from: usize, n: usize)
     requires to_in_work { to + 4 * n ≤ length work.old }
     requires from_in_work { from + 4 * n ≤ length work.old }

@@ -56,6 +56,7 @@ fn remainder(angle: f64) -> f64
     let b = f64::to_bits(angle);
     let field = b % 0x8000_0000_0000_0000 / 0x10_0000_0000_0000;
     let r = doubled(b % 0x10_0000_0000_0000 + 0x10_0000_0000_0000, field - 1025);
+    // By `as`: there is no `From` of a u64, and the check proves that r is kept.
     if b < 0x8000_0000_0000_0000 {
         return r as f64 / PLACES;
     }

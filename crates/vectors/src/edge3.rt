@@ -6,6 +6,7 @@ use crate::vec3;
 use crate::vec3::Vec3;
 
 // A length, and whether the squared length that it is the root of was finite and above 0.
+// No `Option`: document 01 uses the length where it is not acceptable, too.
 #[derive(Clone, Copy)]
 pub struct EdgeLength {
     pub value: f64,

@@ -42,6 +42,7 @@ impl Mul<f64> for Mat3 {
     }
 }
 
+// No `From`: two of the from_* make a block of one vector, and the others take more values or none.
 #[tactic(auto, unfolding(crate::specs::Mat3::mat3_identity))]
 pub fn from_identity() -> Mat3
     ensures { result ≡ mat3_identity }

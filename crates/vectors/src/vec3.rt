@@ -59,6 +59,7 @@ impl Mul<f64> for Vec3 {
     }
 }
 
+// No trait with `vec4::dot`: document 01 sums that one from +0, and this one from its first product.
 #[tactic(auto, unfolding(crate::specs::Vec3::vec3_dot))]
 pub fn dot(a: Vec3, b: Vec3) -> f64
     ensures { result ≡ vec3_dot a b }

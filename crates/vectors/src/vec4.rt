@@ -45,7 +45,7 @@ impl Mul<f64> for Vec4 {
     }
 }
 
-// The sum goes upward from +0.
+// The sum goes upward from +0, which that of `vec3::dot` does not.
 #[tactic(auto, unfolding(crate::specs::Vec4::vec4_dot))]
 pub fn dot(a: Vec4, b: Vec4) -> f64
     ensures { result ≡ vec4_dot a b }
