@@ -1,4 +1,6 @@
 // The lent areas, and a seat's part of each.
+ghost use Rattle.std.specs.Prelude.{◌≡◌, ◌&&◌, length, eqb};
+ghost use Rattle.bench.specs.Areas.{rest_numbers, drape_numbers, pin_bytes};
 
 // How many seats there are.
 pub const SEATS: usize = 6;
@@ -33,3 +35,10 @@ pub type RestPart = [f64; REST_PART];
 pub type DrapePart = [f64; DRAPE_PART];
 
 pub type PinPart = [u8; PIN_PART];
+
+// Whether the three areas have their lengths.
+pub(crate) fn are_whole(rest: &[f64], drape: &[f64], pins: &[u8]) -> bool
+    ensures { result ≡ (eqb (length rest.now) rest_numbers && eqb (length drape.now) drape_numbers && eqb (length pins.now) pin_bytes) }
+{
+    (rest.len() == REST) & (drape.len() == DRAPE) & (pins.len() == PINS)
+}

@@ -20,9 +20,7 @@ fn asked(
 ) -> Result<(), Refusal>
     ensures { told result ≡ number_of (call seat unload) (bench_of seats rest.now drape.now pins.now) }
 {
-    let long = (rest.len() == areas::REST)
-        & (drape.len() == areas::DRAPE)
-        & (pins.len() == areas::PINS);
+    let long = areas::are_whole(rest, drape, pins);
     entry::taken(seats, long, seat)?;
     Ok(())
 }

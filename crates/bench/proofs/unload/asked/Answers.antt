@@ -24,10 +24,10 @@ pub returns-in_err-taken : goal.returns-in_err-taken
 unfolding told
 returns-in_err-taken c =
     let a = c.args in
-    refused_on _ _ _ _ c.from_residual.ensures.1 (unload_tests a.seats a.rest.now a.drape.now a.pins.now a.seat _ c.in_err-taken.ensures.number)
+    refused_on _ _ _ _ c.from_residual.ensures.1 (unload_tests a.seats a.rest.now a.drape.now a.pins.now a.seat _ (rw c.are_whole-long.ensures at c.in_err-taken.ensures.number))
 
 pub returns : goal.returns
 unfolding told
 returns c =
     let a = c.args in
-    rw (unload_tests a.seats a.rest.now a.drape.now a.pins.now a.seat 0 c.in_ok-taken.ensures.number)
+    rw (unload_tests a.seats a.rest.now a.drape.now a.pins.now a.seat 0 (rw c.are_whole-long.ensures at c.in_ok-taken.ensures.number))
