@@ -14,7 +14,7 @@ use Rattle.matrix.specs.HairSystem.{staged_shape}
 use Rattle.matrix.specs.ConjugateGradient.{Outcome}
 use Rattle.matrix.proofs.Shapes.{shape_kept}
 use Rattle.bench.specs.declared.answers.Pick.{Pick}
-use Rattle.bench.specs.declared.answers.StepAnswer.{StepAnswer}
+use Rattle.bench.specs.declared.answers.Numbers.{Numbers}
 use Rattle.bench.specs.declared.answers.StepAnswer.TheVariants.{Accepted}
 use Rattle.bench.specs.declared.refusal.Refusal.{Refusal}
 use Rattle.bench.specs.Strand.{Strand}
@@ -44,7 +44,7 @@ module _ (t : Strand) (pick : Pick) (time : Time) where
     unfolding update_of
     declined = first_before (begin_rows t.count begun_of) _ (λ z. number_not_0 r (e ∙ z)) ∙ sym e
 
-    pub answer_declined : (o : Result StepAnswer Refusal) → IsErrAnd o (λ x. x ≡ r) → answered o ≡ step_answer (update_of t pick time)
+    pub answer_declined : (o : Result Numbers Refusal) → IsErrAnd o (λ x. x ≡ r) → answered o ≡ step_answer (update_of t pick time)
     answer_declined o h = answered_on o r h ∙ rw declined (sym (report_refused r _ _ _))
 
     pub drape_declined : t.drape ≡ step_drape t.drape (update_of t pick time)
@@ -68,7 +68,7 @@ module _ (t : Strand) (pick : Pick) (time : Time) where
     report_on = rw (rows_on_lem, q, f, y)
 
     -- refused for the reason r
-    pub answer_on : (x : Result StepAnswer Refusal) (r : Refusal) → IsErrAnd x (λ s. s ≡ r) → refusal_number r ≡ first rows_on → answered x ≡ step_answer (update_of t pick time)
+    pub answer_on : (x : Result Numbers Refusal) (r : Refusal) → IsErrAnd x (λ s. s ≡ r) → refusal_number r ≡ first rows_on → answered x ≡ step_answer (update_of t pick time)
     answer_on x r d m = answered_on x r d ∙ sym (report_refused r e o.ratio o.count) ∙ rw m report_on
 
     pub accepted_on : 0 ≡ first rows_on → Accepted e o.ratio o.count ≡ step_answer (update_of t pick time)

@@ -12,11 +12,11 @@ use Rattle.std.specs.declared.result.Result.TheVariants.{Ok, Err}
 use Rattle.std.specs.Result.{IsErrAnd}
 use Rattle.matrix.specs.Parts.{table}
 use Rattle.matrix.specs.System.{every}
-use Rattle.matrix.proofs.Every.{and_left, and_right, every_at}
+use Rattle.matrix.proofs.Every.{and_left, every_at}
 use Rattle.bench.specs.declared.refusal.Refusal.{Refusal}
 use Rattle.bench.specs.declared.refusal.Refusal.TheVariants.{Lent, Seat, Occupancy, Lists, Index, Number, Edge, System, Solution, Turn, Drape}
 use Rattle.bench.specs.declared.seats.Record.{Record}
-use Rattle.bench.specs.declared.answers.StepAnswer.{StepAnswer}
+use Rattle.bench.specs.declared.answers.Numbers.{Numbers}
 use Rattle.bench.specs.declared.answers.StepAnswer.TheVariants.{Refused}
 use Rattle.bench.specs.Rows.{last_number}
 use Rattle.bench.specs.Step.{report_by}
@@ -43,9 +43,6 @@ numbered Drape = record { in_table = refl; back = refl }
 
 pub number_least : (r : Refusal) → 1 ≤ refusal_number r
 number_least r = leb-true 1 (refusal_number r) (and_left (leb 1 (refusal_number r)) (leb (refusal_number r) last_number) (numbered r).in_table)
-
-pub number_most : (r : Refusal) → refusal_number r ≤ last_number
-number_most r = leb-true (refusal_number r) last_number (and_right (leb 1 (refusal_number r)) (leb (refusal_number r) last_number) (numbered r).in_table)
 
 pub number_not_0 : (r : Refusal) → refusal_number r ≢ 0
 number_not_0 r = λ e. absurd (omega (arith, number_least r))
@@ -83,7 +80,7 @@ unfolding record_after
 record_kept s (Ok x) r h = absurd h
 record_kept s (Err x) r h = refl
 
-pub answered_on : (o : Result StepAnswer Refusal) (r : Refusal) → IsErrAnd o (λ x. x ≡ r) → answered o ≡ Refused r
+pub answered_on : (o : Result Numbers Refusal) (r : Refusal) → IsErrAnd o (λ x. x ≡ r) → answered o ≡ Refused r
 unfolding answered
 answered_on (Ok x) r h = absurd h
 answered_on (Err x) r h = ap Refused h

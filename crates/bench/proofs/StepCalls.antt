@@ -17,6 +17,7 @@ use Rattle.std.specs.declared.result.Result.{Result}
 use Rattle.std.specs.Result.{IsErrAnd}
 use Rattle.bench.specs.declared.answers.Pick.{Pick}
 use Rattle.bench.specs.declared.answers.StepAnswer.{StepAnswer}
+use Rattle.bench.specs.declared.answers.Numbers.{Numbers}
 use Rattle.bench.specs.declared.answers.StepAnswer.TheVariants.{Accepted, Refused}
 use Rattle.bench.specs.declared.refusal.Refusal.{Refusal}
 use Rattle.bench.specs.Areas.{seats, rest_numbers, drape_numbers, pin_bytes, rest_part, drape_part, pin_part}
@@ -97,7 +98,7 @@ module _ (w : List Float) (s : ℕ) (p : Pick) (d : Time) (b : Bench) where
       (rw (leaves_refused (number_of this b) (case_of (of s (step p d)) (lent_of this) b).leaves n))
       (λ _. refl)
 
-  pub step_refused : (o : Result StepAnswer Refusal) (r : Refusal) → IsErrAnd o (λ x. x ≡ r) → refusal_number r ≡ first asked → (v : List Float) → Promised (answered o) b.drape v v
+  pub step_refused : (o : Result Numbers Refusal) (r : Refusal) → IsErrAnd o (λ x. x ≡ r) → refusal_number r ≡ first asked → (v : List Float) → Promised (answered o) b.drape v v
   step_refused o r h e v = rw (answered_on o r h) (refused_with r e v)
 
   -- ---- its strand is stepped

@@ -5,7 +5,8 @@ use Rattle.std.specs.declared.result.Result.TheVariants.{Ok, Err}
 use Rattle.bench.specs.declared.refusal.Refusal.{Refusal}
 use Rattle.bench.specs.declared.refusal.Refusal.TheVariants.{Lent, Seat, Occupancy, Lists, Index, Number, Edge, System, Solution, Turn, Drape}
 use Rattle.bench.specs.declared.answers.StepAnswer.{StepAnswer}
-use Rattle.bench.specs.declared.answers.StepAnswer.TheVariants.{Refused}
+use Rattle.bench.specs.declared.answers.StepAnswer.TheVariants.{Accepted, Refused}
+use Rattle.bench.specs.declared.answers.Numbers.{Numbers}
 use Rattle.bench.specs.declared.seats.Record.{Record}
 
 -- "When the bench declines": the number of each row
@@ -36,7 +37,7 @@ unfoldable pub record_after : Record → Result Record Refusal → Record
 record_after s (Ok x) = x
 record_after s (Err r) = s
 
--- What a step answers.
-unfoldable pub answered : Result StepAnswer Refusal → StepAnswer
-answered (Ok a) = a
+-- What a step answers, of the three numbers of an accepted one.
+unfoldable pub answered : Result Numbers Refusal → StepAnswer
+answered (Ok x) = Accepted x.energy x.ratio x.count
 answered (Err r) = Refused r

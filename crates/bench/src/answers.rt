@@ -1,4 +1,7 @@
 // What a step is asked and what it answers.
+ghost use Rattle.std.specs.Prelude.{◌≡◌};
+ghost use Rattle.bench.specs.Refusals.{answered};
+
 use crate::refusal::Refusal;
 use vectors::vec3::Vec3;
 
@@ -18,4 +21,28 @@ pub enum StepAnswer {
         count: usize,
     },
     Refused(Refusal),
+}
+
+// The numbers of an accepted step.
+#[derive(Clone, Copy)]
+pub(crate) struct Numbers {
+    pub(crate) energy: f64,
+    pub(crate) ratio: f64,
+    pub(crate) count: usize,
+}
+
+impl From<Result<Numbers, Refusal>> for StepAnswer {
+    ghost from_gives = { λ outcome a. a ≡ answered outcome };
+
+    #[tactic(auto, unfolding(crate::specs::Refusals::answered))]
+    fn from(outcome: Result<Numbers, Refusal>) -> StepAnswer {
+        match outcome {
+            Ok(n) => StepAnswer::Accepted {
+                energy: n.energy,
+                ratio: n.ratio,
+                count: n.count,
+            },
+            Err(refusal) => StepAnswer::Refused(refusal),
+        }
+    }
 }

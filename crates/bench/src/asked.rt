@@ -3,7 +3,7 @@ ghost use Rattle.std.specs.Prelude.{◌≡◌, [], ◌∷◌, ◌++◌, true, ge
 ghost use Rattle.bench.specs.Strand.{strand_of, bench_of};
 ghost use Rattle.bench.specs.Rows.{first};
 ghost use Rattle.bench.specs.Refusals.{told};
-ghost use Rattle.bench.specs.Step.{Time, pick_fits, goal_fits, time_fits};
+ghost use Rattle.bench.specs.Step.{pick_fits, goal_fits};
 ghost use Rattle.bench.specs.Asks.{step, lends, call_with, lent_of};
 ghost use Rattle.bench.specs.Requests.{asked_rows};
 ghost use Rattle.bench.specs.Calls.{lent_long, seat_rows};
@@ -12,6 +12,7 @@ use crate::answers::Pick;
 use crate::picked::Picked;
 use crate::refusal::Refusal;
 use crate::seats::Record;
+use crate::step::kind::Kind;
 use crate::{areas, entry};
 use matrix::area;
 use vectors::finite::Finite;
@@ -38,9 +39,9 @@ fn goal_fits(pick: Pick) -> bool
     }
 }
 
-// What a step is refused with before it begins, else the strand's vertices with the pick; `fits` is whether
-// its time passes 6.
-pub(crate) fn asked(
+// What a step is refused with before it begins, else the strand's vertices with the pick.
+pub(crate) fn asked<K: Kind>(
+    kind: K,
     seats: Record,
     rest: &[f64],
     drape: &[f64],
@@ -48,21 +49,17 @@ pub(crate) fn asked(
     work: &[f64],
     seat: usize,
     pick: Pick,
-    fits: bool,
 ) -> Result<Picked, Refusal>
-    ensures number { (time : Time) → fits ≡ time_fits time → told result ≡ first (seat_rows (lent_long (lends (step pick time)) (lent_of (call_with work.now seat (step pick time))) (bench_of seats rest.now drape.now pins.now)) (seat ∷ []) seats ++ asked_rows (strand_of seat (bench_of seats rest.now drape.now pins.now)) pick time) }
+    ensures number { told result ≡ first (seat_rows (lent_long (lends (step pick (K.time kind))) (lent_of (call_with work.now seat (step pick (K.time kind)))) (bench_of seats rest.now drape.now pins.now)) (seat ∷ []) seats ++ asked_rows (strand_of seat (bench_of seats rest.now drape.now pins.now)) pick (K.time kind)) }
     ensures count { IfOk result (λ p. p.n.count ≡ get_or seats.counts seat 0) }
     ensures pick { IfOk result (λ p. p.pick ≡ pick) }
 {
-    let long = (rest.len() == areas::REST)
-        & (drape.len() == areas::DRAPE)
-        & (pins.len() == areas::PINS)
-        & (work.len() == area::NUMBERS);
+    let long = areas::are_whole(rest, drape, pins) & (work.len() == area::NUMBERS);
     let n = entry::taken(seats, long, seat)?;
     if !pick_fits(n.count, pick) {
         return Err(Refusal::Index);
     }
-    if !(goal_fits(pick) & fits) {
+    if !(goal_fits(pick) & kind.fits()) {
         return Err(Refusal::Number);
     }
     Ok(Picked { n, pick })

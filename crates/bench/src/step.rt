@@ -12,7 +12,7 @@ ghost use Rattle.bench.specs.Strand.{strand};
 ghost use Rattle.bench.specs.Refusals.{answered};
 ghost use Rattle.bench.specs.Step.{update_of, step_answer, step_drape};
 
-use crate::answers::StepAnswer;
+use crate::answers::Numbers;
 use crate::areas::{DrapePart, PinPart, RestPart};
 use crate::picked::Picked;
 use crate::refusal::Refusal;
@@ -29,14 +29,14 @@ pub(crate) fn update<K: Kind>(
     work: &mut Work,
     p: Picked,
     settings: Settings,
-) -> Result<StepAnswer, Refusal>
+) -> Result<Numbers, Refusal>
     ensures value { answered result ≡ step_answer (update_of (strand p.n.count settings rest.now drape.old pins.now) p.pick (K.time kind)) }
     ensures drape_after { drape.new ≡ step_drape drape.old (update_of (strand p.n.count settings rest.now drape.old pins.now) p.pick (K.time kind)) }
 {
     let energy = begin::begin(kind, work, rest, drape, pins, p, settings)?;
     let s = solve::solve(work, pins, p.n, settings.conv_ratio);
     finish::finish(kind, work, drape, pins, p.n, s)?;
-    Ok(StepAnswer::Accepted {
+    Ok(Numbers {
         energy,
         ratio: s.ratio,
         count: s.count,

@@ -10,7 +10,7 @@ ghost use Rattle.bench.specs.Step.{still, over, update_of, step_answer, step_dra
 ghost use Rattle.bench.specs.Asks.{step, call_with};
 ghost use Rattle.bench.specs.Calls.{number_of, answer_of, after_of};
 
-use crate::answers::{Pick, StepAnswer};
+use crate::answers::{Numbers, Pick, StepAnswer};
 use crate::areas::{PinPart, RestPart};
 use crate::picked::Picked;
 use crate::refusal::Refusal;
@@ -31,7 +31,7 @@ fn on_parts<K: Kind>(
     work: &mut Work,
     p: Picked,
     g: Settings,
-) -> Result<StepAnswer, Refusal>
+) -> Result<Numbers, Refusal>
     requires drape_len { length drape.old ≡ drape_part }
     ensures value { answered result ≡ step_answer (update_of (strand p.n.count g rest.now drape.old pins.now) p.pick (K.time kind)) }
     ensures drape_after { drape.new ≡ step_drape drape.old (update_of (strand p.n.count g rest.now drape.old pins.now) p.pick (K.time kind)) }
@@ -52,7 +52,7 @@ fn on_seat<K: Kind>(
     seat: usize,
     p: Picked,
     g: Settings,
-) -> Result<StepAnswer, Refusal>
+) -> Result<Numbers, Refusal>
     requires seat_lt_seats { seat < seats }
     requires rest_len { length rest.now ≡ rest_numbers }
     requires drape_len { length drape.old ≡ drape_numbers }
@@ -84,13 +84,13 @@ fn stepped<K: Kind>(
     work: &mut [f64],
     seat: usize,
     pick: Pick,
-) -> Result<StepAnswer, Refusal>
+) -> Result<Numbers, Refusal>
     ensures answer { reported (answered result) ≡ answer_of (call_with work.old seat (step pick (K.time kind))) (bench_of seats rest.now drape.old pins.now) }
     ensures numbers { step_numbers (answered result) ≡ numbers_told (answer_of (call_with work.old seat (step pick (K.time kind))) (bench_of seats rest.now drape.old pins.now)) }
     ensures after { bench_of seats rest.now drape.new pins.now ≡ after_of (call_with work.old seat (step pick (K.time kind))) (bench_of seats rest.now drape.old pins.now) }
     ensures leaves_work { LeavesWork (number_of (call_with work.old seat (step pick (K.time kind))) (bench_of seats rest.now drape.old pins.now)) work.old work.new }
 {
-    let p = asked::asked(seats, rest, drape, pins, work, seat, pick, kind.fits())?;
+    let p = asked::asked(kind, seats, rest, drape, pins, work, seat, pick)?;
     on_seat(
         kind,
         rest,
@@ -101,17 +101,6 @@ fn stepped<K: Kind>(
         p,
         seats.settings[seat],
     )
-}
-
-// A step's answer, of either outcome.
-#[tactic(auto, unfolding(crate::specs::Refusals::answered))]
-fn answered(r: Result<StepAnswer, Refusal>) -> StepAnswer
-    ensures { result ≡ answered r }
-{
-    match r {
-        Ok(a) => a,
-        Err(k) => StepAnswer::Refused(k),
-    }
 }
 
 // A static step of the seat's strand: its shape moves towards rest, against pins and pick.
@@ -129,7 +118,7 @@ pub fn update_static(
     ensures after { bench_of seats rest.now drape.new pins.now ≡ after_of (call_with work.old seat (step pick still)) (bench_of seats rest.now drape.old pins.now) }
     ensures leaves_work { LeavesWork (number_of (call_with work.old seat (step pick still)) (bench_of seats rest.now drape.old pins.now)) work.old work.new }
 {
-    answered(stepped(Static, seats, rest, drape, pins, work, seat, pick))
+    stepped(Static, seats, rest, drape, pins, work, seat, pick).into()
 }
 
 // A dynamic step of the seat's strand: it moves on for the time dt.
@@ -149,5 +138,5 @@ pub fn update_dynamic(
     ensures leaves_work { LeavesWork (number_of (call_with work.old seat (step pick (over dt))) (bench_of seats rest.now drape.old pins.now)) work.old work.new }
 {
     let kind = Dynamic { dt };
-    answered(stepped(kind, seats, rest, drape, pins, work, seat, pick))
+    stepped(kind, seats, rest, drape, pins, work, seat, pick).into()
 }
