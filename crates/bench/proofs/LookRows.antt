@@ -3,7 +3,6 @@ use mathlib.Core.Path.{◌≡◌, refl, sym, ap, ◌∙◌}
 use mathlib.Core.Bool.{cond, ◌&&◌}
 use mathlib.Core.List.{List, [], ◌∷◌, ◌++◌}
 use Prim.Native.Nat.{ℕ, zero, suc, ◌+◌, ◌-◌, ◌*◌, ◌≤◌, ◌<◌}
-use native.Mathlib.Nat.{add-sub_cancel_left}
 use native.Mathlib.Omega.{arith}
 use lib.Dec.{eqb, leb}
 use lib.ListN.{length, get_or}
@@ -11,7 +10,9 @@ use lib.Ieee.{Float, nan}
 use borrow.Author.Tests.{ltb-true, lt-ltb, le-ltb}
 use Rattle.matrix.specs.Parts.{part}
 use Rattle.matrix.specs.System.{every}
+use Rattle.matrix.proofs.Cases.{by_order}
 use Rattle.matrix.proofs.Parts.{part_part}
+use Rattle.bench.specs.declared.look.Place.{Place}
 use Rattle.bench.specs.declared.seats.Record.{Record}
 use Rattle.bench.specs.Areas.{seats, rest_numbers, drape_numbers, rest_part, drape_part, vector_part}
 use Rattle.bench.specs.Strand.{Bench, Left, strand_of, put_all, bench_of}
@@ -20,6 +21,7 @@ use Rattle.bench.specs.Answers.{handed}
 use Rattle.bench.specs.Asks.{look, companion, Call, call, lent_of}
 use Rattle.bench.specs.Requests.{shown_of, taken, case_at}
 use Rattle.bench.specs.Calls.{rest_long, drape_long, lent_long, seat_rows, case_of, leaves_by, done_of, number_of, answer_of, after_of}
+use Rattle.bench.specs.Looks.{numbers_in, place_on}
 use Rattle.bench.proofs.RowLaws.{demands_of, holds}
 use Rattle.bench.proofs.EntryRows.{all_two, test_one, no_test, not_below, entry_then}
 use Rattle.bench.proofs.Entered.{entered, call_done}
@@ -74,10 +76,18 @@ module _ (r : Record) (rest drape : List Float) (pins : List ℕ) (s kind : ℕ)
       }
 
   -- a kind below 2 is of the rest, another of the drape
-  pub looks_rest : Looks → kind < 2 → (k : ℕ) → k ≡ rest_part * s + vector_part * kind → handed (part rest k (k + 3 * n - k)) ≡ answer_of (call s (look kind)) (bench_of r rest drape pins)
+  shown_rest : Looks → kind < 2 → part rest (rest_part * s + vector_part * kind) (3 * n) ≡ shown_of kind (strand_of s (bench_of r rest drape pins))
   unfolding shown_of strand_of
-  looks_rest p h k e = rw (add-sub_cancel_left k (3 * n)) (ap handed (sym (rw (lt-ltb kind 2 h) (part_part nan rest (rest_part * s) rest_part (vector_part * kind) (3 * n) k e (omega (arith, p.count)) (omega (arith, p.rest_long, p.seat))))) ∙ p.is)
+  shown_rest p h = sym (rw (lt-ltb kind 2 h) (part_part nan rest (rest_part * s) rest_part (vector_part * kind) (3 * n) _ refl (omega (arith, p.count)) (omega (arith, p.rest_long, p.seat))))
 
-  pub looks_drape : Looks → 2 ≤ kind → (k : ℕ) → k ≡ drape_part * s + vector_part * (kind - 2) → handed (part drape k (k + 3 * n - k)) ≡ answer_of (call s (look kind)) (bench_of r rest drape pins)
+  shown_drape : Looks → 2 ≤ kind → part drape (drape_part * s + vector_part * (kind - 2)) (3 * n) ≡ shown_of kind (strand_of s (bench_of r rest drape pins))
   unfolding shown_of strand_of
-  looks_drape p h k e = rw (add-sub_cancel_left k (3 * n)) (ap handed (sym (rw (le-ltb kind 2 h) (part_part nan drape (drape_part * s) drape_part (vector_part * (kind - 2)) (3 * n) k e (omega (arith, p.count, p.below)) (omega (arith, p.drape_long, p.seat))))) ∙ p.is)
+  shown_drape p h = sym (rw (le-ltb kind 2 h) (part_part nan drape (drape_part * s) drape_part (vector_part * (kind - 2)) (3 * n) _ refl (omega (arith, p.count, p.below)) (omega (arith, p.drape_long, p.seat))))
+
+  -- q is where it stands
+  module _ (q : Place) (e : q ≡ place_on s kind n) where
+    pub place_shows : Looks → handed (part (numbers_in q.area rest drape) q.at q.count) ≡ answer_of (call s (look kind)) (bench_of r rest drape pins)
+    place_shows p = rw e (by_order kind 2 (λ h. rw (lt-ltb kind 2 h) (ap handed (shown_rest p h) ∙ p.is)) (λ h. rw (le-ltb kind 2 h) (ap handed (shown_drape p h) ∙ p.is)))
+
+    pub place_fits : Looks → q.at + q.count ≤ length (numbers_in q.area rest drape)
+    place_fits p = rw e (by_order kind 2 (λ h. rw (lt-ltb kind 2 h) (omega (arith, p.rest_long, p.seat, p.count))) (λ h. rw (le-ltb kind 2 h) (omega (arith, p.drape_long, p.seat, p.count, p.below))))

@@ -10,6 +10,7 @@ pub mod Answers
 pub mod Asks
 pub mod Requests
 pub mod Calls
+pub mod Looks
 pub mod Runs
 pub mod PinStory
 pub mod Isolation
