@@ -29,12 +29,12 @@ pub enum Refusal {
     Drape = 11,
 }
 
-impl Refusal {
+impl From<Refusal> for u8 {
+    ghost from_gives = { λ refusal k. k ≡ refusal_number refusal };
+
     #[tactic(auto, unfolding(crate::specs::Refusals::refusal_number))]
-    pub fn number(self) -> u8
-        ensures { result ≡ refusal_number self }
-    {
-        self as u8
+    fn from(refusal: Refusal) -> u8 {
+        refusal as u8
     }
 }
 
@@ -45,6 +45,6 @@ pub fn told<T: Copy>(outcome: Result<T, Refusal>) -> u8
 {
     match outcome {
         Ok(_) => 0,
-        Err(refusal) => refusal.number(),
+        Err(refusal) => refusal.into(),
     }
 }

@@ -25,12 +25,12 @@ pub struct Record {
     pub settings: [Settings; 6],
 }
 
-impl Record {
-    // The record of a new bench: all zero.
+// The record of a new bench: all zero.
+impl Default for Record {
+    ghost is_default = { λ s. s ≡ new_record };
+
     #[tactic(auto, unfolding(crate::specs::Strand::new_record))]
-    pub fn new() -> Record
-        ensures { result ≡ new_record }
-    {
+    fn default() -> Record {
         Record {
             counts: [0; areas::SEATS],
             settings: [Settings::default(); areas::SEATS],
