@@ -22,8 +22,9 @@ pub const PIN_PART: usize = 128;
 // What 32 vertices take as positions, frames, velocities or working copy.
 pub const VECTOR_PART: usize = 96;
 
-// Where frames, velocities and working copy begin in a seat's part of an area; its positions stand
-// first.
+// Where positions, frames, velocities and working copy begin in a seat's part of an area.
+pub(crate) const POSITIONS: usize = 0;
+
 pub(crate) const FRAMES: usize = 96;
 
 pub(crate) const VELOCITIES: usize = 192;

@@ -2,14 +2,15 @@
 ghost use Rattle.std.specs.Prelude.{◌≡◌, ◌+◌, ◌*◌, ◌≤◌, length};
 ghost use Rattle.vectors.specs.Finite.{is_finite};
 ghost use Rattle.vectors.specs.Edge.{edge_length};
+ghost use Rattle.matrix.specs.Parts.{part};
 ghost use Rattle.matrix.specs.Rows.{row3, rows3};
 ghost use Rattle.matrix.specs.System.{every};
 ghost use Rattle.bench.specs.Strand.{seat_entry};
 ghost use Rattle.bench.specs.Given.{good_count, not_negative, good_settings, good_seat, good_record, edges_fit};
 
-use crate::areas;
 use crate::seats::{Record, Settings};
 use matrix::rows::Row;
+use matrix::vertices::Vertices;
 use vectors::edge3;
 use vectors::vec3::Vec3;
 
@@ -17,7 +18,7 @@ use vectors::vec3::Vec3;
 pub fn good_count(n: usize) -> bool
     ensures { result ≡ good_count n }
 {
-    (2..=32).contains(&n)
+    Vertices::new(n).is_some()
 }
 
 // Finite and not below 0; -0 is not below 0.
@@ -51,11 +52,11 @@ fn good_seat(n: usize, g: Settings) -> bool
 pub fn good_record(seats: Record) -> bool
     ensures { result ≡ good_record seats }
 {
-    let mut all = true;
-    for s in 0..areas::SEATS {
-        all &= good_seat(seats.counts[s], seats.settings[s]);
-    }
-    all
+    seats
+        .counts
+        .iter()
+        .zip(&seats.settings)
+        .all(|(n, g)| good_seat(*n, *g))
 }
 
 // Whether every number of the list is finite.
@@ -64,6 +65,14 @@ pub(crate) fn numbers_are_finite(list: &[f64]) -> bool
     ensures { result ≡ every is_finite list.now }
 {
     list.iter().all(|x| x.is_finite())
+}
+
+// Whether the n vectors that begin at `at` are finite.
+pub(crate) fn vectors_are_finite(list: &[f64], at: usize, n: Vertices) -> bool
+    requires { at + 3 * n.count ≤ length list.now }
+    ensures { result ≡ every is_finite (part list.now at (3 * n.count)) }
+{
+    numbers_are_finite(&list[at..at + 3 * n.count])
 }
 
 // Whether the edge from vertex i has a length to work with.

@@ -23,12 +23,8 @@ impl Kind for Dynamic {
 
     // The predicted working copy, and the drape's frames, orthonormalised along it.
     fn stage(self, work: &mut Work, drape: &DrapePart, pins: &PinPart, n: Vertices) {
-        let k = 3 * n.count;
         prediction::predict(work, drape, pins, n, self.dt);
-        parts::store(
-            &mut work[area::FRAMES..area::FRAMES + k],
-            &drape[areas::FRAMES..areas::FRAMES + k],
-        );
+        parts::copy(work, area::FRAMES, drape, areas::FRAMES, n);
         rod3_darboux::orthonormalize_framex_for_hair(work, n);
     }
 
@@ -38,28 +34,17 @@ impl Kind for Dynamic {
     }
 
     fn stage_end(self, work: &mut Work, drape: &DrapePart, pins: &PinPart, n: Vertices) -> bool {
-        let k = 3 * n.count;
         velocities::stage_velocities(work, drape, pins, n, self.dt);
         positions::positions_are_finite(work, drape, pins, n)
-            & given::numbers_are_finite(&work[area::FRAMES..area::FRAMES + k])
-            & given::numbers_are_finite(&work[area::VELOCITIES..area::VELOCITIES + k])
+            & given::vectors_are_finite(work, area::FRAMES, n)
+            & given::vectors_are_finite(work, area::VELOCITIES, n)
     }
 
     // A pinned position stays.
     fn copy(self, drape: &mut DrapePart, work: &Work, pins: &PinPart, n: Vertices) {
-        let k = 3 * n.count;
         positions::store_positions(drape, work, pins, n);
-        parts::store(
-            &mut drape[areas::FRAMES..areas::FRAMES + k],
-            &work[area::FRAMES..area::FRAMES + k],
-        );
-        parts::store(
-            &mut drape[areas::VELOCITIES..areas::VELOCITIES + k],
-            &work[area::VELOCITIES..area::VELOCITIES + k],
-        );
-        parts::store(
-            &mut drape[areas::WORKING_COPY..areas::WORKING_COPY + k],
-            &work[area::POSITIONS..area::POSITIONS + k],
-        );
+        parts::copy(drape, areas::FRAMES, work, area::FRAMES, n);
+        parts::copy(drape, areas::VELOCITIES, work, area::VELOCITIES, n);
+        parts::copy(drape, areas::WORKING_COPY, work, area::POSITIONS, n);
     }
 }

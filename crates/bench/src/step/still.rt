@@ -20,30 +20,21 @@ impl Kind for Static {
     }
 
     fn stage(self, work: &mut Work, drape: &DrapePart, _pins: &PinPart, n: Vertices) {
-        let k = 3 * n.count;
-        parts::store(&mut work[area::POSITIONS..area::POSITIONS + k], &drape[..k]);
-        parts::store(
-            &mut work[area::FRAMES..area::FRAMES + k],
-            &drape[areas::FRAMES..areas::FRAMES + k],
-        );
+        parts::copy(work, area::POSITIONS, drape, areas::POSITIONS, n);
+        parts::copy(work, area::FRAMES, drape, areas::FRAMES, n);
     }
 
     #[tactic(auto, unfolding(crate::specs::Step::timed))]
     fn add_inertia(self, _work: &mut Work, _n: Vertices) {}
 
     fn stage_end(self, work: &mut Work, drape: &DrapePart, _pins: &PinPart, n: Vertices) -> bool {
-        let k = 3 * n.count;
-        given::numbers_are_finite(&work[area::POSITIONS..area::POSITIONS + k])
-            & given::numbers_are_finite(&work[area::FRAMES..area::FRAMES + k])
-            & given::numbers_are_finite(&drape[areas::VELOCITIES..areas::VELOCITIES + k])
+        given::vectors_are_finite(work, area::POSITIONS, n)
+            & given::vectors_are_finite(work, area::FRAMES, n)
+            & given::vectors_are_finite(drape, areas::VELOCITIES, n)
     }
 
     fn copy(self, drape: &mut DrapePart, work: &Work, _pins: &PinPart, n: Vertices) {
-        let k = 3 * n.count;
-        parts::store(&mut drape[..k], &work[area::POSITIONS..area::POSITIONS + k]);
-        parts::store(
-            &mut drape[areas::FRAMES..areas::FRAMES + k],
-            &work[area::FRAMES..area::FRAMES + k],
-        );
+        parts::copy(drape, areas::POSITIONS, work, area::POSITIONS, n);
+        parts::copy(drape, areas::FRAMES, work, area::FRAMES, n);
     }
 }

@@ -1,17 +1,15 @@
 -- The test reads the velocities where they were staged, and the shape stays.
-use Rattle.std.proofs.Common.{List, ◌*◌, sym, ap, ◌∙◌}
-use native.Mathlib.Nat.{add-sub_cancel_left}
+use Rattle.std.proofs.Common.{List, sym, ap, ◌∙◌}
 use Rattle.vectors.specs.declared.vec3.Vec3.{Vec3}
-use Rattle.matrix.specs.Parts.{part}
 use Rattle.matrix.specs.Rows.{rows3, flat3}
-use Rattle.matrix.specs.Area.{place_positions, place_frames, place_velocities}
+use Rattle.matrix.specs.Area.{place_positions}
 use Rattle.matrix.specs.HairSystem.{Shape}
 use Rattle.bench.specs.Step.{drape_is_finite, velocities_after, dynamic_drape, drape_after}
 use Rattle.bench.proofs.Finishing.{finite_dynamic, velocities_staged, length_velocities}
 use Rattle.bench.proofs.step.dynamic.DynamicKind.stage_end.Goals as goal
 
 pub returns : goal.returns
-unfolding part drape_after
+unfolding drape_after
 returns c =
     let a = c.args in
     let n = a.n.count in
@@ -22,7 +20,7 @@ returns c =
     let y = v.there ∙ ap (λ (z : List Vec3). flat3 (velocities_after dt n a.pins.now a.drape.now z)) (sym v.positions_stay) in
     let f = finite_dynamic c.stage_velocities.new.work a.drape.now n h c.stage_velocities.array_long c.told-drape dt a.pins.now y in
     record {
-      value = rw (c.positions_are_finite.ensures, c.numbers_are_finite.ensures, c.numbers_are_finite-2.ensures, add-sub_cancel_left place_frames (3 * n), add-sub_cancel_left place_velocities (3 * n)) (sym f) ∙ ap (λ (s : Shape). drape_is_finite n (dynamic_drape dt n a.pins.now a.drape.now s)) v.shape_stays;
+      value = rw (c.positions_are_finite.ensures, c.vectors_are_finite.ensures, c.vectors_are_finite-2.ensures) (sym f) ∙ ap (λ (s : Shape). drape_is_finite n (dynamic_drape dt n a.pins.now a.drape.now s)) v.shape_stays;
       shape_kept = v.shape_stays;
       velocities_staged = y;
     }
