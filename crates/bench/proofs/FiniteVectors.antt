@@ -14,6 +14,6 @@ unfolding every flat3 numbers3 vec3_is_finite
 finite_flat [] = refl
 finite_flat (v ∷ l) = rw (finite_flat l) (simp and_assoc)
 
--- a test of the vectors of a table, made to the end
-pub finite_all : (b : Bool) (n i : ℕ) (f : ℕ → Vec3) → b ≡ every vec3_is_finite (table i f) → i ≡ n → b ≡ every is_finite (flat3 (table n f))
-finite_all b n i f h e = (rw e at h) ∙ sym (finite_flat (table n f))
+-- a test of the vectors of a table
+pub finite_all : (b : Bool) (n : ℕ) (f : ℕ → Vec3) → b ≡ every vec3_is_finite (table n f) → b ≡ every is_finite (flat3 (table n f))
+finite_all b n f h = h ∙ sym (finite_flat (table n f))

@@ -21,6 +21,7 @@ pub mod Lists
 pub mod Contents
 pub mod Isolated
 pub mod Filled
+pub mod Ranges
 pub mod FiniteVectors
 pub mod EdgeLaws
 pub mod TurnLaws

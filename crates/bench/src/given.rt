@@ -92,9 +92,5 @@ pub(crate) fn edges_fit(positions: &[f64], n: usize) -> bool
     requires positions_long { 3 * n ≤ length positions.now }
     ensures { result ≡ edges_fit n (rows3 positions.now 0 n) }
 {
-    let mut all = true;
-    for i in 0..n - 1 {
-        all &= edge_fits(positions, i);
-    }
-    all
+    (0..n - 1).all(|i| edge_fits(positions, i))
 }

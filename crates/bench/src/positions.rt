@@ -39,11 +39,7 @@ pub(crate) fn positions_are_finite(
 ) -> bool
     ensures { result ≡ every is_finite (flat3 (positions_after n.count pins.now drape.now (rows3 work.now area.place_positions n.count))) }
 {
-    let mut all = true;
-    for i in 0..n.count {
-        all &= position_after(work, drape, pins, i).is_finite();
-    }
-    all
+    (0..n.count).all(|i| position_after(work, drape, pins, i).is_finite())
 }
 
 // The positions after the step become those of the drape.
