@@ -1,13 +1,13 @@
 -- What crosses to C in place of an enum or of a part of an area: a pick, a step's answer and the place of a look, as numbers.
-use Rattle.std.specs.Prelude.{cond, List, ℕ, zero, suc, ◌+◌, ◌-◌, ◌*◌, ltb, get_or, Float}
+use Rattle.std.specs.Prelude.{cond, List, ℕ, zero, suc, ◌*◌, ltb, get_or, Float}
 use Rattle.vectors.specs.declared.vec3.Vec3.{Vec3}
 use Rattle.bench.specs.declared.answers.Pick.{Pick}
 use Rattle.bench.specs.declared.answers.Pick.TheVariants.{Nothing, At}
-use Rattle.bench.specs.Areas.{rest_part, drape_part, vector_part}
 use Rattle.bench.specs.Strand.{Bench}
 use Rattle.bench.specs.Answers.{Answer, numbers_told}
 use Rattle.bench.specs.Asks.{look, call}
 use Rattle.bench.specs.Calls.{number_of}
+use Rattle.bench.specs.Looks.{begins_at}
 use Rattle.bench_c.specs.declared.Report.{Report}
 use Rattle.bench_c.specs.declared.Place.{Place}
 
@@ -23,10 +23,6 @@ report_of a = let n = numbers_told a in record { number = n.number; energy = n.e
 -- "that part of the rest area or of the drape area itself": the area that a kind chooses.
 abbrev pub looked_at : ℕ → List Float → List Float → List Float
 looked_at kind rest drape = cond (ltb kind 2) rest drape
-
--- Where the numbers of a kind begin there, of the strand on seat s.
-abbrev pub begins_at : ℕ → ℕ → ℕ
-begins_at s kind = cond (ltb kind 2) (rest_part * s + vector_part * kind) (drape_part * s + vector_part * (kind - 2))
 
 -- "3n numbers, or an empty part when refused"; k is what the look is refused with
 abbrev pub place_by : ℕ → ℕ → ℕ → ℕ → Place

@@ -17,7 +17,7 @@ ghost use Rattle.bench_c.specs.Exported.{pick_of, report_of, looked_at, place_of
 use bench::answers::{Pick, StepAnswer};
 use bench::refusal::Refusal;
 use bench::seats::{Record, Settings};
-use bench::{areas, load, look, pin, refusal, steps, unload};
+use bench::{load, look, pin, refusal, steps, unload};
 use vectors::vec3::Vec3;
 
 // The record after a call, and the number that the call is refused with, 0 for none.
@@ -40,7 +40,7 @@ pub struct Report {
 
 // A part of an area: its first place, and how many numbers it has.
 #[repr(C)]
-#[derive(Clone, Copy)]
+#[derive(Clone, Copy, Default)]
 pub struct Place {
     pub at: usize,
     pub count: usize,
@@ -87,7 +87,7 @@ impl From<StepAnswer> for Report {
                 ratio,
             },
             StepAnswer::Refused(r) => Report {
-                number: r.number(),
+                number: r.into(),
                 energy: 0.0,
                 count: 0,
                 ratio: 0.0,
@@ -178,16 +178,13 @@ pub extern "C" fn hairbench_look(
     ensures place { (pins : List ℕ) → result ≡ place_of seat kind (bench_of «record» rest.now drape.now pins) }
     ensures part { (pins : List ℕ) → handed (part (looked_at kind rest.now drape.now) result.at result.count) ≡ answer_of (call seat (look kind)) (bench_of «record» rest.now drape.now pins) }
 {
-    let Ok(()) = look::companion(record, rest, drape, seat, kind) else {
-        return Place { at: 0, count: 0 };
+    let Ok(p) = look::place_of(record, rest, drape, seat, kind) else {
+        return Place::default();
     };
-    let count = 3 * record.counts[seat];
-    if kind < 2 {
-        let at = areas::REST_PART * seat + areas::VECTOR_PART * kind;
-        return Place { at, count };
+    Place {
+        at: p.at,
+        count: p.count,
     }
-    let at = areas::DRAPE_PART * seat + areas::VECTOR_PART * (kind - 2);
-    Place { at, count }
 }
 
 // The root of x.
