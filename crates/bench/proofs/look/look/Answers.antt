@@ -1,5 +1,4 @@
 -- A refused look hands back nothing; another the numbers at its place.
-use Rattle.std.proofs.Common.{◌≡◌}
 use native.Mathlib.Nat.{add-sub_cancel_left}
 use Rattle.matrix.specs.Parts.{part}
 use Rattle.bench.specs.Refusals.{told}

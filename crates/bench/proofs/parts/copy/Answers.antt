@@ -1,5 +1,5 @@
 -- The part is stored where it was lent.
-use Rattle.std.proofs.Common.{◌+◌, ◌*◌}
+use Rattle.std.proofs.Common.{◌*◌}
 use native.Mathlib.Nat.{add-sub_cancel_left}
 use Rattle.matrix.specs.Parts.{part}
 use Rattle.bench.proofs.PutBack.{put_copied}
