@@ -5,14 +5,14 @@ ghost use Rattle.bench.specs.Refusals.{answered};
 use crate::refusal::Refusal;
 use vectors::vec3::Vec3;
 
-// A vertex that is pulled to a goal, or none.
+// A vertex that is pulled to a goal, or none. No Option: document 01 has the pick as an enum of its own.
 #[derive(Clone, Copy)]
 pub enum Pick {
     Nothing,
     At(usize, Vec3),
 }
 
-// A step's answer: accepted with its numbers, or why it is refused.
+// A step's answer: accepted with its numbers, or why it is refused. No Result: it is a shape of document 01.
 #[derive(Clone, Copy)]
 pub enum StepAnswer {
     Accepted {

@@ -24,7 +24,8 @@ fn known(seats: Record, long: bool, seat: usize) -> Result<(), Refusal>
     Ok(())
 }
 
-// 1, 2 or 3, of a call that wants an empty seat.
+// 1, 2 or 3, of a call that wants an empty seat. Apart from `taken`, which tests the opposite and answers
+// another type.
 pub(crate) fn vacant(seats: Record, long: bool, seat: usize) -> Result<(), Refusal>
     ensures { told result ≡ first (seat_rows long (seat ∷ []) seats ++ (vacant (get_or seats.counts seat 0) ∷ [])) }
 {

@@ -9,7 +9,7 @@ ghost use Rattle.bench.specs.Strand.{seat_entry};
 ghost use Rattle.bench.specs.Given.{good_count, not_negative, good_settings, good_seat, good_record, edges_fit};
 
 use crate::seats::{Record, Settings};
-use matrix::rows::Row;
+use matrix::rows;
 use matrix::vertices::Vertices;
 use vectors::edge3;
 use vectors::vec3::Vec3;
@@ -80,8 +80,7 @@ fn edge_fits(positions: &[f64], i: usize) -> bool
     requires { 3 * i + 6 ≤ length positions.now }
     ensures { result ≡ (edge_length (row3 positions.now (3 * i)) (row3 positions.now (3 * i + 3))).acceptable }
 {
-    let p0 = Vec3::load(positions, 3 * i);
-    let p1 = Vec3::load(positions, 3 * i + 3);
+    let (p0, p1): (Vec3, Vec3) = rows::pair(positions, 3 * i);
     edge3::is_acceptable(p0, p1)
 }
 

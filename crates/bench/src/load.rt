@@ -58,6 +58,7 @@ fn asked(
 }
 
 // The whole of the seat's parts is written; the strand's working copy is its rest shape, too.
+// Two calls: document 01 has the record by value, and where it stands.
 pub fn load_value(
     seats: Record,
     rest: &mut [f64],

@@ -27,7 +27,8 @@ fn asked(
     Ok(())
 }
 
-// The byte becomes the pin of a vertex's component.
+// The byte becomes the pin of a vertex's component. Document 01 refuses a component that there is not with
+// 5, so it is any number.
 pub fn pin(
     seats: Record,
     pins: &mut [u8],

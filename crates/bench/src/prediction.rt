@@ -22,7 +22,7 @@ fn predicted(dt: f64, pin: u8, position: f64, velocity: f64, copy: f64) -> f64
     pins::unless_pinned(pin, copy, position + dt * velocity)
 }
 
-// The three numbers of vertex i.
+// The three numbers of vertex i, each by `predicted`; `vertex_velocity` has another formula of other inputs.
 fn predicted_vertex(drape: &DrapePart, pins: &PinPart, dt: f64, i: usize) -> Vec3
     requires { i < 32 }
     ensures { result ≡ predicted_vec3 dt pins.now (4 * i) (row3 drape.now (3 * i)) (row3 drape.now (place_velocities + 3 * i)) (row3 drape.now (place_working_copy + 3 * i)) }

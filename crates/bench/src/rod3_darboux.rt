@@ -11,10 +11,10 @@ use crate::areas::PinPart;
 use crate::pinned;
 use elements::rod3_darboux::turned;
 use elements::rod3_darboux::turned::TurnedFrame;
-use matrix::area;
 use matrix::area::Work;
 use matrix::rows::Row;
-use matrix::vertices::Vertices;
+use matrix::vertices::{Edge, Vertices};
+use matrix::{area, rows};
 use vectors::vec3;
 use vectors::vec3::Vec3;
 use vectors::vec4::Vec4;
@@ -22,23 +22,20 @@ use vectors::vec4::Vec4;
 // 2^-20: an edge that turns so far that 1 and the cosine come to less has turned back on itself.
 const LEAST_TURN: f64 = 9.5367431640625e-7;
 
-// The edge from vertex i to the next.
-fn edge(work: &Work, n: Vertices, i: usize) -> Vec3
-    requires { i + 1 < n.count }
-    ensures { result ≡ edge_at (rows3 work.now place_positions n.count) i }
+// The vector from the edge's first end to its second.
+fn along(work: &Work, e: Edge) -> Vec3
+    ensures { result ≡ edge_at (rows3 work.now place_positions e.n.count) e.from }
 {
-    let p0 = Vec3::load(work, area::POSITIONS + 3 * i);
-    let p1 = Vec3::load(work, area::POSITIONS + 3 * i + 3);
+    let (p0, p1): (Vec3, Vec3) = rows::pair(work, area::POSITIONS + 3 * e.from);
     p1 - p0
 }
 
-// The frame of edge i, made a unit vector across the edge.
-fn orthonormal(work: &Work, n: Vertices, i: usize) -> Vec3
-    requires { i + 1 < n.count }
-    ensures { result ≡ vec3_normalize (vec3_orthogonalize (edge_at (rows3 work.now place_positions n.count) i) (vec3_at (rows3 work.now place_frames n.count) i)) }
+// The edge's frame, made a unit vector across it.
+fn orthonormal(work: &Work, e: Edge) -> Vec3
+    ensures { result ≡ vec3_normalize (vec3_orthogonalize (edge_at (rows3 work.now place_positions e.n.count) e.from) (vec3_at (rows3 work.now place_frames e.n.count) e.from)) }
 {
-    let x = Vec3::load(work, area::FRAMES + 3 * i);
-    vec3::normalize(vec3::orthogonalize(edge(work, n, i), x))
+    let x = Vec3::load(work, area::FRAMES + 3 * e.from);
+    vec3::normalize(vec3::orthogonalize(along(work, e), x))
 }
 
 // Every edge's frame becomes a unit vector across the edge; the last vertex has no edge.
@@ -46,37 +43,34 @@ pub(crate) fn orthonormalize_framex_for_hair(work: &mut Work, n: Vertices)
     ensures { work.new ≡ put work.old place_frames (flat3 (orthonormalize_framex_for_hair n.count (rows3 work.old place_positions n.count) (rows3 work.old place_frames n.count))) }
 {
     for i in 0..n.count - 1 {
-        orthonormal(work, n, i).store(work, area::FRAMES + 3 * i);
+        orthonormal(work, Edge { n, from: i }).store(work, area::FRAMES + 3 * i);
     }
 }
 
-// The frame of edge i, turned as the solution moves the edge's ends and twists it.
-fn turned_frame(work: &Work, n: Vertices, i: usize) -> TurnedFrame
-    requires { i + 1 < n.count }
-    ensures { result ≡ turn_at (staged_shape n.count work.now) (rows4 work.now place_u n.count) i }
+// The edge's frame, turned as the solution moves the edge's ends and twists it.
+fn turned_frame(work: &Work, e: Edge) -> TurnedFrame
+    ensures { result ≡ turn_at (staged_shape e.n.count work.now) (rows4 work.now place_u e.n.count) e.from }
 {
-    let x = Vec3::load(work, area::FRAMES + 3 * i);
-    let a = Vec4::load(work, area::U + 4 * i);
-    let b = Vec4::load(work, area::U + 4 * i + 4);
+    let x = Vec3::load(work, area::FRAMES + 3 * e.from);
+    let (a, b): (Vec4, Vec4) = rows::pair(work, area::U + 4 * e.from);
     let dz = Vec3 {
         x: a.x - b.x,
         y: a.y - b.y,
         z: a.z - b.z,
     };
-    turned::updated_rod_frame(x, edge(work, n, i), dz, -a.w)
+    turned::updated_rod_frame(x, along(work, e), dz, -a.w)
 }
 
-// The frame of edge i turns unless its twist is pinned; the answer is whether 10 does not decline it.
-fn turn_edge(work: &mut Work, pins: &PinPart, n: Vertices, i: usize) -> bool
-    requires { i + 1 < n.count }
-    ensures value { result ≡ turn_fits n.count pins.now (staged_shape n.count work.old) (rows4 work.old place_u n.count) i }
-    ensures work_after { work.new ≡ put work.old (place_frames + 3 * i) (numbers3 (cond (is_turned n.count pins.now i) (turn_at (staged_shape n.count work.old) (rows4 work.old place_u n.count) i).x (vec3_at (rows3 work.old place_frames n.count) i))) }
+// The edge's frame turns unless its twist is pinned; the answer is whether 10 does not decline it.
+fn turn_edge(work: &mut Work, pins: &PinPart, e: Edge) -> bool
+    ensures value { result ≡ turn_fits e.n.count pins.now (staged_shape e.n.count work.old) (rows4 work.old place_u e.n.count) e.from }
+    ensures work_after { work.new ≡ put work.old (place_frames + 3 * e.from) (numbers3 (cond (is_turned e.n.count pins.now e.from) (turn_at (staged_shape e.n.count work.old) (rows4 work.old place_u e.n.count) e.from).x (vec3_at (rows3 work.old place_frames e.n.count) e.from))) }
 {
-    if pins[4 * i + 3] != 0 {
+    if pins[4 * e.from + 3] != 0 {
         return true;
     }
-    let t = turned_frame(work, n, i);
-    t.x.store(work, area::FRAMES + 3 * i);
+    let t = turned_frame(work, e);
+    t.x.store(work, area::FRAMES + 3 * e.from);
     !(t.one_plus_cosine < LEAST_TURN)
 }
 
@@ -87,7 +81,7 @@ fn turn_frames(work: &mut Work, pins: &PinPart, n: Vertices) -> bool
 {
     let mut fit = true;
     for i in 0..n.count - 1 {
-        fit &= turn_edge(work, pins, n, i);
+        fit &= turn_edge(work, pins, Edge { n, from: i });
     }
     fit
 }

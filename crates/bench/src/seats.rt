@@ -17,7 +17,8 @@ pub struct Settings {
     pub conv_ratio: f64,
 }
 
-// Of each seat the number of its strand's vertices, 0 where it is empty, and the settings.
+// Of each seat the number of its strand's vertices, 0 where it is empty, and the settings. Two arrays, as
+// document 01 has the record.
 #[repr(C)]
 #[derive(Clone, Copy)]
 pub struct Record {

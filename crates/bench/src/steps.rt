@@ -42,7 +42,8 @@ fn on_parts<K: Kind>(
     step::update(kind, rest, part, pins, work, p, g)
 }
 
-// A step of the seat's strand, which has the settings g.
+// A step of the seat's strand, which has the settings g. `seat < seats` is a clause here and in seats and
+// strands: a type for a seat would take a clause more at each of six functions that hand it on.
 fn on_seat<K: Kind>(
     kind: K,
     rest: &[f64],
@@ -103,7 +104,8 @@ fn stepped<K: Kind>(
     )
 }
 
-// A static step of the seat's strand: its shape moves towards rest, against pins and pick.
+// A static step of the seat's strand: its shape moves towards rest, against pins and pick. Document 01 has
+// a call for each kind of step.
 pub fn update_static(
     seats: Record,
     rest: &[f64],

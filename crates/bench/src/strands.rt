@@ -7,7 +7,8 @@ ghost use Rattle.bench.specs.Requests.{padded};
 
 use crate::{areas, parts};
 
-// Everything that the seat has in the areas becomes 0.
+// Everything that the seat has in the areas becomes 0. Public calls are lent slices, so the areas' lengths
+// are clauses: arrays would have to be made of them at each caller, in three lines.
 pub(crate) fn clear(rest: &mut [f64], drape: &mut [f64], pins: &mut [u8], seat: usize)
     requires seat_lt_seats { seat < seats }
     requires rest_len { length rest.old ≡ rest_numbers }
@@ -25,7 +26,8 @@ pub(crate) fn clear(rest: &mut [f64], drape: &mut [f64], pins: &mut [u8], seat: 
     pins[p..p + areas::PIN_PART].fill(0);
 }
 
-// The list, and zeros up to the numbers of 32 vertices.
+// The list, and zeros up to the numbers of 32 vertices. A type for a list of at most so many numbers would
+// hold a reference, which the checker does not cover when it is lent again.
 fn pad(area: &mut [f64], list: &[f64])
     requires area_len { length area.old ≡ vector_part }
     requires list_len { length list.now ≤ vector_part }

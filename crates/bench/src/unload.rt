@@ -25,7 +25,8 @@ fn asked(
     Ok(())
 }
 
-// Everything that the seat has becomes 0.
+// Everything that the seat has becomes 0. Two calls: document 01 has the record by value, and where it
+// stands.
 pub fn unload_value(
     seats: Record,
     rest: &mut [f64],

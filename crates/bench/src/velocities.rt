@@ -23,7 +23,8 @@ fn velocity_after(dt: f64, pin: u8, velocity: f64, copy: f64, position: f64) -> 
     pins::unless_pinned(pin, velocity, (copy - position) / dt)
 }
 
-// The velocity of vertex i, whose working copy is `copy`.
+// The velocity of vertex i, whose working copy is `copy`; `predicted_vertex` has another formula of other
+// inputs.
 fn vertex_velocity(drape: &DrapePart, pins: &PinPart, copy: Vec3, dt: f64, i: usize) -> Vec3
     requires { i < 32 }
     ensures { result ≡ velocity_vec3 dt pins.now (4 * i) (row3 drape.now (place_velocities + 3 * i)) copy (row3 drape.now (3 * i)) }

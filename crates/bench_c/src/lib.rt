@@ -20,7 +20,7 @@ use bench::seats::{Record, Settings};
 use bench::{load, look, pin, refusal, steps, unload};
 use vectors::vec3::Vec3;
 
-// The record after a call, and the number that the call is refused with, 0 for none.
+// The record after a call, and the number that the call is refused with, 0 for none. C has no Result.
 #[repr(C)]
 #[derive(Clone, Copy)]
 pub struct Changed {
@@ -28,7 +28,8 @@ pub struct Changed {
     pub refusal: u8,
 }
 
-// A step's answer: the number that it is refused with, 0 for none, and its numbers.
+// A step's answer: the number that it is refused with, 0 for none, and its numbers. C has no enum with
+// values, so a refusal is a number here and below.
 #[repr(C)]
 #[derive(Clone, Copy)]
 pub struct Report {
@@ -46,7 +47,7 @@ pub struct Place {
     pub count: usize,
 }
 
-// No pick where the flag is 0.
+// No pick where the flag is 0. C has no Option, and the pick is three arguments there, so no `From`.
 fn picked(flag: u8, vertex: usize, goal: Vec3) -> Pick
     ensures { result ≡ pick_of flag vertex goal }
 {
@@ -195,7 +196,7 @@ pub extern "C" fn hairbench_sqrt(x: f64) -> f64
     roots::sqrt(x)
 }
 
-// A static step; no pick where `flag` is 0.
+// A static step; no pick where `flag` is 0. C has a name for each kind of step.
 #[unsafe(no_mangle)]
 pub extern "C" fn hairbench_step_static(
     record: Record,

@@ -9,6 +9,7 @@ use crate::areas::{DrapePart, PinPart};
 use matrix::area::Work;
 use matrix::vertices::Vertices;
 
+// Drape, pins and n are lent one by one, as the areas are.
 pub(crate) trait Kind: Copy {
     ghost time: { Self → Time };
 

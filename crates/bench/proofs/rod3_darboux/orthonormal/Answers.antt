@@ -7,4 +7,4 @@ use Rattle.bench.proofs.rod3_darboux.orthonormal.Goals as goal
 pub returns : goal.returns
 returns c =
     let a = c.args in
-    rw (c.normalize.ensures, c.orthogonalize.ensures, c.load-x.ensures, c.edge.ensures, vec3_at_lem a.work.now place_frames a.n.count a.i (place_frames + 3 * a.i) (omega arith) refl)
+    rw (c.normalize.ensures, c.orthogonalize.ensures, c.load-x.ensures, c.along.ensures, vec3_at_lem a.work.now place_frames a.e.n.count a.e.from (place_frames + 3 * a.e.from) (omega arith) refl)

@@ -6,4 +6,4 @@ use Rattle.bench.proofs.rod3_darboux.turned_frame.Goals as goal
 
 pub returns : goal.returns
 unfolding staged_shape
-returns c = turn_at_lem _ place_positions place_frames place_u _ _ c.requires c.edge.ensures c.load-x.ensures c.load-a.ensures c.load-b.ensures c.updated_rod_frame.ensures
+returns c = turn_at_lem _ place_positions place_frames place_u _ _ c.args.e.there c.along.ensures c.load-x.ensures c.pair.ensures.first c.pair.ensures.second c.updated_rod_frame.ensures
