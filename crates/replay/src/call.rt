@@ -1,8 +1,8 @@
 // A call that a line stores: what is lent, what is asked, and what the reference answered.
-use crate::area::Area;
 use crate::event::Kind;
 use crate::fault::{Fault, Malformed};
 use crate::lent::Lent;
+use crate::look::StoredLook;
 use crate::settings;
 use crate::step::StoredStep;
 use crate::stored::Stored;
@@ -32,12 +32,10 @@ pub enum Asked<'a> {
         byte: u8,
         refusal: u64,
     },
-    // The numbers that are handed back, and where they stand.
+    // None is stored where it is refused.
     Look {
         kind: usize,
-        area: Area,
-        place: usize,
-        numbers: &'a [u64],
+        stored: Option<StoredLook<'a>>,
     },
     Companion {
         kind: usize,
@@ -94,9 +92,7 @@ impl<'a> Asked<'a> {
             },
             Kind::Look => Asked::Look {
                 kind: words.value()?,
-                area: Area::try_from(words.word()?)?,
-                place: words.value()?,
-                numbers: words.list()?,
+                stored: StoredLook::read(words)?,
             },
             Kind::Companion => Asked::Companion {
                 kind: words.value()?,

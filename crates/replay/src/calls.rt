@@ -1,8 +1,8 @@
 // The calls on the bench, each with the areas as they are lent.
-use crate::area::Area;
 use crate::areas::Areas;
 use crate::call::{Asked, Call, Load};
 use crate::lent::Lent;
+use crate::look::{Shown, StoredLook};
 use crate::stored::{Stored, first_other};
 use bench::answers::{Pick, StepAnswer};
 use bench::refusal::Refusal;
@@ -25,15 +25,7 @@ impl Areas {
                 byte,
                 refusal,
             } => told(self.pin(lent, seat, *vertex, *component, *byte), *refusal),
-            Asked::Look {
-                kind,
-                area,
-                place,
-                numbers,
-            } => {
-                are_stored(self.look(lent, seat, *kind), numbers)
-                    & are_stored(self.numbers_at(lent, *area, *place, numbers.len()), numbers)
-            }
+            Asked::Look { kind, stored } => self.has_shown(lent, seat, *kind, *stored),
             Asked::Companion { kind, refusal } => told(self.companion(lent, seat, *kind), *refusal),
             Asked::Step { pick, dt, answer } => answer.is(self.step(lent, seat, *pick, *dt)),
         }
@@ -97,17 +89,31 @@ impl Areas {
         }
     }
 
-    // So many numbers of rest or drape, as they are lent, from a place on; none where there are fewer.
-    fn numbers_at(&self, lent: Lent, area: Area, place: usize, n: usize) -> &[f64] {
-        let numbers = match area {
-            Area::Rest => &self.rest[..lent.rest],
-            Area::Drape => &self.drape[..lent.drape],
-            _ => return &[],
+    // Whether the look hands back the stored numbers, and these stand where they are stored to stand.
+    fn has_shown(
+        &self,
+        lent: Lent,
+        seat: usize,
+        kind: usize,
+        stored: Option<StoredLook<'_>>,
+    ) -> bool {
+        let numbers = self.look(lent, seat, kind);
+        match stored {
+            None => numbers.is_empty(),
+            Some(stored) => { are_stored(numbers, stored.numbers) & self.holds(lent, stored) }
+        }
+    }
+
+    // Whether the numbers stand in the area as it is lent, from the place on.
+    fn holds(&self, lent: Lent, stored: StoredLook<'_>) -> bool {
+        let numbers = match stored.area {
+            Shown::Rest => &self.rest[..lent.rest],
+            Shown::Drape => &self.drape[..lent.drape],
         };
         numbers
-            .get(place..)
-            .and_then(|it| it.get(..n))
-            .unwrap_or(&[])
+            .get(stored.place..)
+            .and_then(|it| it.get(..stored.numbers.len()))
+            .is_some_and(|it| are_stored(it, stored.numbers))
     }
 }
 

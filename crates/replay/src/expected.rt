@@ -48,19 +48,21 @@ impl Expected {
         }
     }
 
-    fn area_mut(&mut self, area: Area) -> &mut [u64] {
+    // The places of an area. Where there is no such area it has none, so that a run of no words fits there.
+    fn area_mut(&mut self, area: Option<Area>) -> &mut [u64] {
         match area {
-            Area::Counts => &mut self.counts,
-            Area::Settings => &mut self.settings,
-            Area::Rest => &mut self.rest,
-            Area::Drape => &mut self.drape,
-            Area::Pins => &mut self.pins,
+            Some(Area::Counts) => &mut self.counts,
+            Some(Area::Settings) => &mut self.settings,
+            Some(Area::Rest) => &mut self.rest,
+            Some(Area::Drape) => &mut self.drape,
+            Some(Area::Pins) => &mut self.pins,
+            None => &mut [],
         }
     }
 
     // Makes a run of new words: area, first place, and the list of them.
     fn make_run(&mut self, words: &mut Words<'_>) -> Result<(), Malformed> {
-        let area = self.area_mut(Area::try_from(words.word()?)?);
+        let area = self.area_mut(Area::try_from(words.word()?).ok());
         let first: usize = words.value()?;
         let list = words.list()?;
         let from = area.get_mut(first..).ok_or(Malformed)?;

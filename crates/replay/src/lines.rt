@@ -30,8 +30,8 @@ impl<R: BufRead> Lines<R> {
         words(alloc, &text)
     }
 
+    // Whether the last line was the text's. Also where it had all the bytes of its limit: then no more is looked at.
     pub fn is_at_end(&mut self) -> io::Result<bool> {
-        self.reader.set_limit(BYTES);
         Ok(self.reader.fill_buf()?.is_empty())
     }
 }

@@ -17,6 +17,7 @@ mod fault;
 mod garbage;
 mod lent;
 mod lines;
+mod look;
 mod run;
 mod settings;
 mod step;
