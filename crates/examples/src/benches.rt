@@ -10,11 +10,11 @@ use bench::seats::Record;
 use bench::{areas, load, look, pin, steps, unload};
 use vectors::vec3::Vec3;
 
-// Numbers in the work area.
+// Numbers in the work area. The bench does not name them; matrix does, and is no library of this program.
 pub const WORK: usize = 3264;
 
 // How much of each area a call is lent, at most what a Bench has. A look and its companion are lent all that
-// they ask for.
+// they ask for. Beside the areas, since wrong lengths are among what the examples show.
 #[derive(Clone, Copy)]
 pub struct Lengths {
     pub rest: usize,
@@ -64,19 +64,16 @@ impl Default for Bench {
     }
 }
 
-// Where a call writes in several areas, each is made a slice before a part of it is lent, since the check
-// follows no other form.
+// Where several areas are lent to be written, each is lent as a slice first: the check does not cover fields
+// of which parts are lent by an index there.
 impl Bench {
     pub fn load(&mut self, seat: usize, strand: Strand) -> Result<(), Refusal> {
         let lent = self.lent;
-        let rest = &mut self.rest[..];
-        let drape = &mut self.drape[..];
-        let pins = &mut self.pins[..];
         self.record = load::load_value(
             self.record,
-            &mut rest[..lent.rest],
-            &mut drape[..lent.drape],
-            &mut pins[..lent.pins],
+            &mut self.rest.as_mut_slice()[..lent.rest],
+            &mut self.drape.as_mut_slice()[..lent.drape],
+            &mut self.pins.as_mut_slice()[..lent.pins],
             seat,
             strand.count,
             strand.settings,
@@ -88,14 +85,11 @@ impl Bench {
 
     pub fn unload(&mut self, seat: usize) -> Result<(), Refusal> {
         let lent = self.lent;
-        let rest = &mut self.rest[..];
-        let drape = &mut self.drape[..];
-        let pins = &mut self.pins[..];
         self.record = unload::unload_value(
             self.record,
-            &mut rest[..lent.rest],
-            &mut drape[..lent.drape],
-            &mut pins[..lent.pins],
+            &mut self.rest.as_mut_slice()[..lent.rest],
+            &mut self.drape.as_mut_slice()[..lent.drape],
+            &mut self.pins.as_mut_slice()[..lent.pins],
             seat,
         )?;
         Ok(())
@@ -149,12 +143,11 @@ impl Bench {
     // A static step, or a dynamic one over the time dt.
     pub fn step(&mut self, seat: usize, pick: Pick, dt: Option<f64>) -> StepAnswer {
         let lent = self.lent;
-        let drape = &mut self.drape[..];
-        let work = &mut self.work[..];
         let rest = &self.rest[..lent.rest];
-        let drape = &mut drape[..lent.drape];
+        let drape = &mut self.drape.as_mut_slice()[..lent.drape];
         let pins = &self.pins[..lent.pins];
-        let work = &mut work[..lent.work];
+        let work = &mut self.work.as_mut_slice()[..lent.work];
+        // One arm for each of the bench's two calls.
         match dt {
             None => steps::update_static(self.record, rest, drape, pins, work, seat, pick),
             Some(dt) => {

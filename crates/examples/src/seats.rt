@@ -1,7 +1,5 @@
 // Loads, each on a new bench, and the numbers that they answer.
-ghost use Rattle.std.specs.Prelude.{◌+◌, ◌≤◌};
-
-use crate::benches::{Bench, Lengths, WORK};
+use crate::benches::Bench;
 use crate::strands::Strand;
 use crate::{print, strands};
 use bench::areas::{DRAPE, PINS, REST};
@@ -82,29 +80,30 @@ fn show_records(rt: &impl Print) -> io::Result<()> {
     seated(rt, "load beside an empty seat's NaN", 0, 0, f64::NAN)
 }
 
-// A load into areas of these lengths.
-fn lent(rt: &impl Print, what: &str, rest: usize, drape: usize, pins: usize) -> io::Result<()>
-    requires rest_bound { rest ≤ REST + 1 }
-    requires drape_bound { drape ≤ DRAPE + 1 }
-    requires pins_bound { pins ≤ PINS + 1 }
-{
-    let mut bench = Bench::default();
-    bench.lent = Lengths {
-        rest,
-        drape,
-        pins,
-        work: WORK,
-    };
+// A load of the usual strand on this bench.
+fn lent(rt: &impl Print, what: &str, mut bench: Bench) -> io::Result<()> {
     print::answer(rt, what, bench.load(0, Strand::default()))
 }
 
 fn show_lengths(rt: &impl Print) -> io::Result<()> {
-    lent(rt, "load with rest one short", REST - 1, DRAPE, PINS)?;
-    lent(rt, "load with rest one long", REST + 1, DRAPE, PINS)?;
-    lent(rt, "load with drape one short", REST, DRAPE - 1, PINS)?;
-    lent(rt, "load with drape one long", REST, DRAPE + 1, PINS)?;
-    lent(rt, "load with pins one short", REST, DRAPE, PINS - 1)?;
-    lent(rt, "load with pins one long", REST, DRAPE, PINS + 1)
+    let mut bench = Bench::default();
+    bench.lent.rest = REST - 1;
+    lent(rt, "load with rest one short", bench)?;
+    let mut bench = Bench::default();
+    bench.lent.rest = REST + 1;
+    lent(rt, "load with rest one long", bench)?;
+    let mut bench = Bench::default();
+    bench.lent.drape = DRAPE - 1;
+    lent(rt, "load with drape one short", bench)?;
+    let mut bench = Bench::default();
+    bench.lent.drape = DRAPE + 1;
+    lent(rt, "load with drape one long", bench)?;
+    let mut bench = Bench::default();
+    bench.lent.pins = PINS - 1;
+    lent(rt, "load with pins one short", bench)?;
+    let mut bench = Bench::default();
+    bench.lent.pins = PINS + 1;
+    lent(rt, "load with pins one long", bench)
 }
 
 // A load of two vertices, x apart.

@@ -3,7 +3,8 @@ ghost use Rattle.std.specs.Prelude.{◌≤◌};
 
 use bench::seats::Settings;
 
-// What a load is given: the number of vertices, the settings and the lists of positions and frames.
+// What a load is given: the number of vertices, the settings and the lists of positions and frames. Document
+// 01 has the number beside the lists, so that it can be wrong.
 #[derive(Clone, Copy)]
 pub struct Strand<'a> {
     pub count: usize,
