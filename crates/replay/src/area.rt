@@ -9,6 +9,7 @@ pub const DRAPE: usize = bench::areas::DRAPE + 4;
 
 pub const PINS: usize = bench::areas::PINS + 4;
 
+// The bench names no length of the work area; matrix does, and is no library of this program.
 pub const WORK: usize = 3264 + 4;
 
 // The record's counts and settings are two areas, too.

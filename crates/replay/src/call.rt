@@ -19,7 +19,8 @@ pub struct Call<'a> {
     pub asked: Asked<'a>,
 }
 
-// What is asked, with the answer; a refusal is the number of it, 0 for none.
+// What is asked, with the answer. A refusal is the number of it, 0 for none; any number, since one that there is
+// not is an answer that differs, and not malformed.
 #[derive(Drop)]
 pub enum Asked<'a> {
     Load(Load),

@@ -11,8 +11,11 @@ use bench::{load, look, pin, refusal, steps, unload};
 // Numbers of the longest list that a load is handed.
 const LIST: usize = 128;
 
+// Where several areas are lent to be written, each is lent as a slice first: the check does not cover fields
+// of which parts are lent by an index there.
 impl Areas {
-    // Makes the call. Whether its answer is the stored one.
+    // Makes the call. Whether its answer is the stored one. One arm for each kind: each hands over other things, and
+    // the check names a kind without an arm.
     pub fn make(&mut self, call: &Call<'_>) -> bool {
         let lent = call.lent;
         let seat = call.seat;
@@ -63,8 +66,14 @@ impl Areas {
         component: usize,
         byte: u8,
     ) -> Result<(), Refusal> {
-        let pins = &mut self.pins.as_mut_slice()[..lent.pins];
-        pin::pin(self.record, pins, seat, vertex, component, byte)
+        pin::pin(
+            self.record,
+            &mut self.pins[..lent.pins],
+            seat,
+            vertex,
+            component,
+            byte,
+        )
     }
 
     fn look(&self, lent: Lent, seat: usize, kind: usize) -> &[f64] {
@@ -83,6 +92,7 @@ impl Areas {
         let drape = &mut self.drape.as_mut_slice()[..lent.drape];
         let pins = &self.pins[..lent.pins];
         let work = &mut self.work.as_mut_slice()[..lent.work];
+        // One arm for each of the bench's two calls.
         match dt {
             None => steps::update_static(seats, rest, drape, pins, work, seat, pick),
             Some(dt) => steps::update_dynamic(seats, rest, drape, pins, work, seat, pick, dt),

@@ -6,7 +6,8 @@ use crate::area::{DRAPE, PINS, REST, WORK};
 use crate::fault::Malformed;
 use crate::words::Words;
 
-// No more than there is.
+// No more than there is. Each bound stands beside its length: a type of one length and its bound would have a name
+// more at each use.
 #[derive(Clone, Copy)]
 pub struct Lent {
     pub rest: usize,

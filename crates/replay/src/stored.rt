@@ -22,10 +22,12 @@ impl Stored for f64 {
     }
 }
 
-// A word that is no byte is taken for 255, and stands for none.
+// What a word that is no byte is taken for. It stands for none.
+const NO_BYTE: u8 = u8::MAX;
+
 impl Stored for u8 {
     fn of(word: u64) -> u8 {
-        u8::try_from(word).unwrap_or(u8::MAX)
+        u8::try_from(word).unwrap_or(NO_BYTE)
     }
 
     fn is(self, word: u64) -> bool {
@@ -33,6 +35,7 @@ impl Stored for u8 {
     }
 }
 
+// By `as`: between u64 and usize there is no `From`, and the check proves that nothing is lost.
 impl Stored for usize {
     fn of(word: u64) -> usize {
         word as usize
