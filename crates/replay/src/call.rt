@@ -71,8 +71,9 @@ impl<'a> Call<'a> {
     // How much of the work area the call may change: what it is lent, for a step that is not declined
     // with 1 to 6.
     pub fn free_work(&self) -> usize {
+        let lent = self.lent.work.length;
         match &self.asked {
-            Asked::Step { answer, .. } if !(1..=6).contains(&answer.refusal) => self.lent.work,
+            Asked::Step { answer, .. } if !(1..=6).contains(&answer.refusal) => lent,
             _ => 0,
         }
     }

@@ -11,8 +11,6 @@ use bench::{load, look, pin, refusal, steps, unload};
 // Numbers of the longest list that a load is handed.
 const LIST: usize = 128;
 
-// Where several areas are lent to be written, each is lent as a slice first: the check does not cover fields
-// of which parts are lent by an index there.
 impl Areas {
     // Makes the call. Whether its answer is the stored one. One arm for each kind: each hands over other things, and
     // the check names a kind without an arm.
@@ -37,9 +35,9 @@ impl Areas {
     fn load(&mut self, lent: Lent, seat: usize, load: &Load) -> Result<(), Refusal> {
         load::load(
             &mut self.record,
-            &mut self.rest.as_mut_slice()[..lent.rest],
-            &mut self.drape.as_mut_slice()[..lent.drape],
-            &mut self.pins.as_mut_slice()[..lent.pins],
+            lent.rest.of_mut(&mut self.rest),
+            lent.drape.of_mut(&mut self.drape),
+            lent.pins.of_mut(&mut self.pins),
             seat,
             load.n,
             load.settings,
@@ -51,9 +49,9 @@ impl Areas {
     fn unload(&mut self, lent: Lent, seat: usize) -> Result<(), Refusal> {
         unload::unload(
             &mut self.record,
-            &mut self.rest.as_mut_slice()[..lent.rest],
-            &mut self.drape.as_mut_slice()[..lent.drape],
-            &mut self.pins.as_mut_slice()[..lent.pins],
+            lent.rest.of_mut(&mut self.rest),
+            lent.drape.of_mut(&mut self.drape),
+            lent.pins.of_mut(&mut self.pins),
             seat,
         )
     }
@@ -68,7 +66,7 @@ impl Areas {
     ) -> Result<(), Refusal> {
         pin::pin(
             self.record,
-            &mut self.pins[..lent.pins],
+            lent.pins.of_mut(&mut self.pins),
             seat,
             vertex,
             component,
@@ -77,21 +75,21 @@ impl Areas {
     }
 
     fn look(&self, lent: Lent, seat: usize, kind: usize) -> &[f64] {
-        let rest = &self.rest[..lent.rest];
-        look::look(self.record, rest, &self.drape[..lent.drape], seat, kind)
+        let rest = lent.rest.of(&self.rest);
+        look::look(self.record, rest, lent.drape.of(&self.drape), seat, kind)
     }
 
     fn companion(&self, lent: Lent, seat: usize, kind: usize) -> Result<(), Refusal> {
-        let rest = &self.rest[..lent.rest];
-        look::companion(self.record, rest, &self.drape[..lent.drape], seat, kind)
+        let rest = lent.rest.of(&self.rest);
+        look::companion(self.record, rest, lent.drape.of(&self.drape), seat, kind)
     }
 
     fn step(&mut self, lent: Lent, seat: usize, pick: Pick, dt: Option<f64>) -> StepAnswer {
         let seats = self.record;
-        let rest = &self.rest[..lent.rest];
-        let drape = &mut self.drape.as_mut_slice()[..lent.drape];
-        let pins = &self.pins[..lent.pins];
-        let work = &mut self.work.as_mut_slice()[..lent.work];
+        let rest = lent.rest.of(&self.rest);
+        let drape = lent.drape.of_mut(&mut self.drape);
+        let pins = lent.pins.of(&self.pins);
+        let work = lent.work.of_mut(&mut self.work);
         // One arm for each of the bench's two calls.
         match dt {
             None => steps::update_static(seats, rest, drape, pins, work, seat, pick),
@@ -110,15 +108,15 @@ impl Areas {
         let numbers = self.look(lent, seat, kind);
         match stored {
             None => numbers.is_empty(),
-            Some(stored) => { are_stored(numbers, stored.numbers) & self.holds(lent, stored) }
+            Some(stored) => are_stored(numbers, stored.numbers) & self.holds(lent, stored),
         }
     }
 
     // Whether the numbers stand in the area as it is lent, from the place on.
     fn holds(&self, lent: Lent, stored: StoredLook<'_>) -> bool {
         let numbers = match stored.area {
-            Shown::Rest => &self.rest[..lent.rest],
-            Shown::Drape => &self.drape[..lent.drape],
+            Shown::Rest => lent.rest.of(&self.rest),
+            Shown::Drape => lent.drape.of(&self.drape),
         };
         numbers
             .get(stored.place..)

@@ -8,6 +8,7 @@ use std::io::BufReader;
 
 mod area;
 mod areas;
+mod at_most;
 mod call;
 mod calls;
 mod difference;
