@@ -2,34 +2,37 @@
 ghost use Rattle.std.specs.Prelude.{◌≡◌, ◌&&◌, length, eqb};
 ghost use Rattle.bench.specs.Areas.{rest_numbers, drape_numbers, pin_bytes};
 
+use matrix::area;
+use matrix::vertices::MOST;
+
 // How many seats there are.
 pub const SEATS: usize = 6;
 
 // Numbers in the rest area, numbers in the drape area, bytes in the pin area.
-pub const REST: usize = 1152;
+pub const REST: usize = SEATS * REST_PART;
 
-pub const DRAPE: usize = 2304;
+pub const DRAPE: usize = SEATS * DRAPE_PART;
 
-pub const PINS: usize = 768;
+pub const PINS: usize = SEATS * PIN_PART;
 
 // What one seat has of each.
-pub const REST_PART: usize = 192;
+pub const REST_PART: usize = 2 * VECTOR_PART;
 
-pub const DRAPE_PART: usize = 384;
+pub const DRAPE_PART: usize = 4 * VECTOR_PART;
 
-pub const PIN_PART: usize = 128;
+pub const PIN_PART: usize = 4 * MOST;
 
 // What 32 vertices take as positions, frames, velocities or working copy.
-pub const VECTOR_PART: usize = 96;
+pub const VECTOR_PART: usize = area::VECTORS;
 
 // Where positions, frames, velocities and working copy begin in a seat's part of an area.
 pub(crate) const POSITIONS: usize = 0;
 
-pub(crate) const FRAMES: usize = 96;
+pub(crate) const FRAMES: usize = VECTOR_PART;
 
-pub(crate) const VELOCITIES: usize = 192;
+pub(crate) const VELOCITIES: usize = 2 * VECTOR_PART;
 
-pub(crate) const WORKING_COPY: usize = 288;
+pub(crate) const WORKING_COPY: usize = 3 * VECTOR_PART;
 
 pub type RestPart = [f64; REST_PART];
 
