@@ -54,7 +54,7 @@ pub struct Bench {
 impl Default for Bench {
     fn default() -> Bench {
         Bench {
-            record: Record::new(),
+            record: Record::default(),
             lent: Lengths::default(),
             rest: [0.0; areas::REST + 1],
             drape: [0.0; areas::DRAPE + 1],

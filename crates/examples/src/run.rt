@@ -90,7 +90,7 @@ impl fmt::Display for Answer {
                 Bits(energy),
                 Bits(ratio)
             ),
-            StepAnswer::Refused(refusal) => write!(f, "{}", refusal.number()),
+            StepAnswer::Refused(refusal) => write!(f, "{}", u8::from(refusal)),
         }
     }
 }

@@ -31,7 +31,7 @@ impl StoredStep {
                 ratio,
                 count,
             } => self.has(0, energy, count, ratio),
-            StepAnswer::Refused(refusal) => self.has(refusal.number(), 0.0, 0, 0.0),
+            StepAnswer::Refused(refusal) => self.has(refusal.into(), 0.0, 0, 0.0),
         }
     }
 
