@@ -83,6 +83,7 @@ fn diagonal_plus(m: Mat4, c: f64) -> Mat4
 }
 
 // c added to the diagonal block of every vertex.
+#[inline]
 #[tactic(auto, using(crate::proofs::Columns::own_place_fits))]
 pub(crate) fn add_to_diagonals(work: &mut Work, n: Vertices, c: f64)
     ensures work_after { system_at n.count work.new ≡ with_diagonal n.count c (system_at n.count work.old) }
