@@ -42,7 +42,7 @@ fn goal_fits(pick: Pick) -> bool
 // What a step is refused with before it begins, else the strand's vertices with the pick.
 pub(crate) fn asked<K: Kind>(
     kind: K,
-    seats: Record,
+    seats: &Record,
     rest: &[f64],
     drape: &[f64],
     pins: &[u8],
@@ -50,8 +50,8 @@ pub(crate) fn asked<K: Kind>(
     seat: usize,
     pick: Pick,
 ) -> Result<Picked, Refusal>
-    ensures number { told result ≡ first (seat_rows (lent_long (lends (step pick (K.time kind))) (lent_of (call_with work.now seat (step pick (K.time kind)))) (bench_of seats rest.now drape.now pins.now)) (seat ∷ []) seats ++ asked_rows (strand_of seat (bench_of seats rest.now drape.now pins.now)) pick (K.time kind)) }
-    ensures count { IfOk result (λ p. p.n.count ≡ get_or seats.counts seat 0) }
+    ensures number { told result ≡ first (seat_rows (lent_long (lends (step pick (K.time kind))) (lent_of (call_with work.now seat (step pick (K.time kind)))) (bench_of seats.now rest.now drape.now pins.now)) (seat ∷ []) seats.now ++ asked_rows (strand_of seat (bench_of seats.now rest.now drape.now pins.now)) pick (K.time kind)) }
+    ensures count { IfOk result (λ p. p.n.count ≡ get_or seats.now.counts seat 0) }
     ensures pick { IfOk result (λ p. p.pick ≡ pick) }
 {
     let long = areas::are_whole(rest, drape, pins) & (work.len() == area::NUMBERS);

@@ -12,10 +12,10 @@ use crate::{areas, given};
 use matrix::vertices::Vertices;
 
 // 1 or 2, in this order.
-fn known(seats: Record, long: bool, seat: usize) -> Result<(), Refusal>
-    ensures { told result ≡ first (seat_rows long (seat ∷ []) seats) }
+fn known(seats: &Record, long: bool, seat: usize) -> Result<(), Refusal>
+    ensures { told result ≡ first (seat_rows long (seat ∷ []) seats.now) }
 {
-    if !long | !given::good_record(seats) {
+    if !long | !given::good_record(*seats) {
         return Err(Refusal::Lent);
     }
     if areas::SEATS <= seat {
@@ -26,8 +26,8 @@ fn known(seats: Record, long: bool, seat: usize) -> Result<(), Refusal>
 
 // 1, 2 or 3, of a call that wants an empty seat. Apart from `taken`, which tests the opposite and answers
 // another type.
-pub(crate) fn vacant(seats: Record, long: bool, seat: usize) -> Result<(), Refusal>
-    ensures { told result ≡ first (seat_rows long (seat ∷ []) seats ++ (vacant (get_or seats.counts seat 0) ∷ [])) }
+pub(crate) fn vacant(seats: &Record, long: bool, seat: usize) -> Result<(), Refusal>
+    ensures { told result ≡ first (seat_rows long (seat ∷ []) seats.now ++ (vacant (get_or seats.now.counts seat 0) ∷ [])) }
 {
     known(seats, long, seat)?;
     if seats.counts[seat] != 0 {
@@ -37,9 +37,9 @@ pub(crate) fn vacant(seats: Record, long: bool, seat: usize) -> Result<(), Refus
 }
 
 // 1, 2 or 3, of a call that wants a strand; else how many vertices that has.
-pub(crate) fn taken(seats: Record, long: bool, seat: usize) -> Result<Vertices, Refusal>
-    ensures number { told result ≡ first (seat_rows long (seat ∷ []) seats ++ (taken (get_or seats.counts seat 0) ∷ [])) }
-    ensures count { IfOk result (λ n. n.count ≡ get_or seats.counts seat 0) }
+pub(crate) fn taken(seats: &Record, long: bool, seat: usize) -> Result<Vertices, Refusal>
+    ensures number { told result ≡ first (seat_rows long (seat ∷ []) seats.now ++ (taken (get_or seats.now.counts seat 0) ∷ [])) }
+    ensures count { IfOk result (λ n. n.count ≡ get_or seats.now.counts seat 0) }
 {
     known(seats, long, seat)?;
     Vertices::new(seats.counts[seat]).ok_or(Refusal::Occupancy)

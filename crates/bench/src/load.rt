@@ -44,7 +44,7 @@ fn asked(
     ensures { told result ≡ number_of (call seat (load (load_of n settings positions.now frames.now))) (bench_of seats rest.now drape.now pins.now) }
 {
     let long = areas::are_whole(rest, drape, pins);
-    entry::vacant(seats, long, seat)?;
+    entry::vacant(&seats, long, seat)?;
     if !lists_fit(n, positions.len(), frames.len()) {
         return Err(Refusal::Lists);
     }

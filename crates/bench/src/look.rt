@@ -93,7 +93,7 @@ pub fn place_of(
     ensures shown { (pins : List ℕ) → IfOk result (λ p. handed (part (numbers_in p.area rest.now drape.now) p.at p.count) ≡ answer_of (call seat (look kind)) (bench_of seats rest.now drape.now pins)) }
 {
     let long = (rest.len() == areas::REST) & (drape.len() == areas::DRAPE);
-    let n = entry::taken(seats, long, seat)?;
+    let n = entry::taken(&seats, long, seat)?;
     let shown = Shown::try_from(kind)?;
     Ok(place_on(seat, shown, n))
 }

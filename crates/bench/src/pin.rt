@@ -20,7 +20,7 @@ fn asked(
 ) -> Result<(), Refusal>
     ensures { (rest drape : List Float) (byte : ℕ) → told result ≡ number_of (call seat (pin vertex component byte)) (bench_of seats rest drape pins.now) }
 {
-    let n = entry::taken(seats, pins.len() == areas::PINS, seat)?;
+    let n = entry::taken(&seats, pins.len() == areas::PINS, seat)?;
     if !((vertex < n.count) & (component < 4)) {
         return Err(Refusal::Index);
     }

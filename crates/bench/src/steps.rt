@@ -78,7 +78,7 @@ fn on_seat<K: Kind>(
 // A step of the seat's strand, if it has one and nothing declines it.
 fn stepped<K: Kind>(
     kind: K,
-    seats: Record,
+    seats: &Record,
     rest: &[f64],
     drape: &mut [f64],
     pins: &[u8],
@@ -86,10 +86,10 @@ fn stepped<K: Kind>(
     seat: usize,
     pick: Pick,
 ) -> Result<Numbers, Refusal>
-    ensures answer { reported (answered result) ≡ answer_of (call_with work.old seat (step pick (K.time kind))) (bench_of seats rest.now drape.old pins.now) }
-    ensures numbers { step_numbers (answered result) ≡ numbers_told (answer_of (call_with work.old seat (step pick (K.time kind))) (bench_of seats rest.now drape.old pins.now)) }
-    ensures after { bench_of seats rest.now drape.new pins.now ≡ after_of (call_with work.old seat (step pick (K.time kind))) (bench_of seats rest.now drape.old pins.now) }
-    ensures leaves_work { LeavesWork (number_of (call_with work.old seat (step pick (K.time kind))) (bench_of seats rest.now drape.old pins.now)) work.old work.new }
+    ensures answer { reported (answered result) ≡ answer_of (call_with work.old seat (step pick (K.time kind))) (bench_of seats.now rest.now drape.old pins.now) }
+    ensures numbers { step_numbers (answered result) ≡ numbers_told (answer_of (call_with work.old seat (step pick (K.time kind))) (bench_of seats.now rest.now drape.old pins.now)) }
+    ensures after { bench_of seats.now rest.now drape.new pins.now ≡ after_of (call_with work.old seat (step pick (K.time kind))) (bench_of seats.now rest.now drape.old pins.now) }
+    ensures leaves_work { LeavesWork (number_of (call_with work.old seat (step pick (K.time kind))) (bench_of seats.now rest.now drape.old pins.now)) work.old work.new }
 {
     let p = asked::asked(kind, seats, rest, drape, pins, work, seat, pick)?;
     on_seat(
@@ -120,7 +120,7 @@ pub fn update_static(
     ensures after { bench_of seats rest.now drape.new pins.now ≡ after_of (call_with work.old seat (step pick still)) (bench_of seats rest.now drape.old pins.now) }
     ensures leaves_work { LeavesWork (number_of (call_with work.old seat (step pick still)) (bench_of seats rest.now drape.old pins.now)) work.old work.new }
 {
-    stepped(Static, seats, rest, drape, pins, work, seat, pick).into()
+    stepped(Static, &seats, rest, drape, pins, work, seat, pick).into()
 }
 
 // A dynamic step of the seat's strand: it moves on for the time dt.
@@ -140,5 +140,5 @@ pub fn update_dynamic(
     ensures leaves_work { LeavesWork (number_of (call_with work.old seat (step pick (over dt))) (bench_of seats rest.now drape.old pins.now)) work.old work.new }
 {
     let kind = Dynamic { dt };
-    stepped(kind, seats, rest, drape, pins, work, seat, pick).into()
+    stepped(kind, &seats, rest, drape, pins, work, seat, pick).into()
 }

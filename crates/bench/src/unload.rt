@@ -21,7 +21,7 @@ fn asked(
     ensures { told result ≡ number_of (call seat unload) (bench_of seats rest.now drape.now pins.now) }
 {
     let long = areas::are_whole(rest, drape, pins);
-    entry::taken(seats, long, seat)?;
+    entry::taken(&seats, long, seat)?;
     Ok(())
 }
 

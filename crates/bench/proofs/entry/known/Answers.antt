@@ -7,12 +7,12 @@ use Rattle.bench.proofs.entry.known.Goals as goal
 
 pub returns-then-long-good_record : goal.returns-then-long-good_record
 unfolding told refusal_number
-returns-then-long-good_record c = let a = c.args in rw (seat_tests a.long a.seat a.seats, rw c.good_record.ensures at c.if-long-good_record.true)
+returns-then-long-good_record c = let a = c.args in rw (seat_tests a.long a.seat a.seats.now, rw c.good_record.ensures at c.if-long-good_record.true)
 
 pub returns-then-seat-ge-SEATS : goal.returns-then-seat-ge-SEATS
 unfolding told refusal_number
-returns-then-seat-ge-SEATS c = let a = c.args in rw (seat_tests a.long a.seat a.seats, rw c.good_record.ensures at c.if-long-good_record.false, le-leb _ _ c.if-seat-ge-SEATS.true)
+returns-then-seat-ge-SEATS c = let a = c.args in rw (seat_tests a.long a.seat a.seats.now, rw c.good_record.ensures at c.if-long-good_record.false, le-leb _ _ c.if-seat-ge-SEATS.true)
 
 pub returns : goal.returns
 unfolding told
-returns c = let a = c.args in rw (seat_tests a.long a.seat a.seats, rw c.good_record.ensures at c.if-long-good_record.false, lt-leb _ _ c.if-seat-ge-SEATS.false)
+returns c = let a = c.args in rw (seat_tests a.long a.seat a.seats.now, rw c.good_record.ensures at c.if-long-good_record.false, lt-leb _ _ c.if-seat-ge-SEATS.false)

@@ -21,7 +21,7 @@ pub returns-in_err-known-clause-number : goal.returns-in_err-known-clause-number
 unfolding told
 returns-in_err-known-clause-number c =
     let a = c.args in
-    refused_on _ _ _ _ c.from_residual.ensures.1 (third_test a.long a.seat a.seats (not (eqb (get_or a.seats.counts a.seat 0) 0)) _ c.in_err-known.ensures)
+    refused_on _ _ _ _ c.from_residual.ensures.1 (third_test a.long a.seat a.seats.now (not (eqb (get_or a.seats.now.counts a.seat 0) 0)) _ c.in_err-known.ensures)
 
 pub offset_bounds-seats-seat : goal.offset_bounds-seats-seat
 unfolding told seat_rows
@@ -35,6 +35,6 @@ pub returns-clause-number : goal.returns-clause-number
 unfolding told seat_rows
 returns-clause-number c =
     let a = c.args in
-    let n = get_or a.seats.counts a.seat 0 in
-    let good = (entry_passed a.long a.seat a.seats [] (sym c.in_ok-known.ensures)).good in
-    rw (c.ok_or.ensures.value, third_test a.long a.seat a.seats (not (eqb n 0)) 0 c.in_ok-known.ensures) (strand_or_none c.new.result n c.new.ensures.variant (taken_seat (entry_of a.seat a.seats) good))
+    let n = get_or a.seats.now.counts a.seat 0 in
+    let good = (entry_passed a.long a.seat a.seats.now [] (sym c.in_ok-known.ensures)).good in
+    rw (c.ok_or.ensures.value, third_test a.long a.seat a.seats.now (not (eqb n 0)) 0 c.in_ok-known.ensures) (strand_or_none c.new.result n c.new.ensures.variant (taken_seat (entry_of a.seat a.seats.now) good))

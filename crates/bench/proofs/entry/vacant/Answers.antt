@@ -10,7 +10,7 @@ pub returns-in_err-known : goal.returns-in_err-known
 unfolding told
 returns-in_err-known c =
     let a = c.args in
-    refused_on _ _ _ _ c.from_residual.ensures.1 (third_test a.long a.seat a.seats (eqb (get_or a.seats.counts a.seat 0) 0) _ c.in_err-known.ensures)
+    refused_on _ _ _ _ c.from_residual.ensures.1 (third_test a.long a.seat a.seats.now (eqb (get_or a.seats.now.counts a.seat 0) 0) _ c.in_err-known.ensures)
 
 pub offset_bounds-seats-seat : goal.offset_bounds-seats-seat
 unfolding told seat_rows
@@ -24,10 +24,10 @@ pub returns-then-seats-seat-ne0 : goal.returns-then-seats-seat-ne0
 unfolding told refusal_number
 returns-then-seats-seat-ne0 c =
     let a = c.args in
-    rw (third_test a.long a.seat a.seats (eqb (get_or a.seats.counts a.seat 0) 0) 0 c.in_ok-known.ensures, ne_eqb _ _ c.if-seats-seat-ne0.true)
+    rw (third_test a.long a.seat a.seats.now (eqb (get_or a.seats.now.counts a.seat 0) 0) 0 c.in_ok-known.ensures, ne_eqb _ _ c.if-seats-seat-ne0.true)
 
 pub returns : goal.returns
 unfolding told
 returns c =
     let a = c.args in
-    rw (third_test a.long a.seat a.seats (eqb (get_or a.seats.counts a.seat 0) 0) 0 c.in_ok-known.ensures, eq-eqb _ _ c.if-seats-seat-ne0.false)
+    rw (third_test a.long a.seat a.seats.now (eqb (get_or a.seats.now.counts a.seat 0) 0) 0 c.in_ok-known.ensures, eq-eqb _ _ c.if-seats-seat-ne0.false)

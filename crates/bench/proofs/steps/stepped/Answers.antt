@@ -8,19 +8,19 @@ use Rattle.bench.proofs.steps.stepped.Goals as goal
 use Rattle.bench.proofs.steps.stepped.Goals.{In_ok-p}
 
 -- what a step that is not refused has passed
-accepted : (g : Over) (c : In_ok-p g) → Steps c.args.work.now c.args.seat c.args.pick (g.K.Kind.time c.args.kind) (bench_of c.args.seats c.args.rest.now c.args.drape.now c.args.pins.now)
+accepted : (g : Over) (c : In_ok-p g) → Steps c.args.work.now c.args.seat c.args.pick (g.K.Kind.time c.args.kind) (bench_of c.args.seats.now c.args.rest.now c.args.drape.now c.args.pins.now)
 unfolding told
 accepted g c =
     let a = c.args in
     let time = g.K.Kind.time a.kind in
-    steps a.work.now a.seat a.pick time (bench_of a.seats a.rest.now a.drape.now a.pins.now) (sym c.in_ok-p.ensures.number)
+    steps a.work.now a.seat a.pick time (bench_of a.seats.now a.rest.now a.drape.now a.pins.now) (sym c.in_ok-p.ensures.number)
 
 pub returns-in_err-p : goal.returns-in_err-p
 unfolding told
 returns-in_err-p g c =
     let a = c.args in
     let time = g.K.Kind.time a.kind in
-    let q = step_refused a.work.now a.seat a.pick time (bench_of a.seats a.rest.now a.drape.now a.pins.now) _ _ c.from_residual.ensures.1 c.in_err-p.ensures.number a.work.now in
+    let q = step_refused a.work.now a.seat a.pick time (bench_of a.seats.now a.rest.now a.drape.now a.pins.now) _ _ c.from_residual.ensures.1 c.in_err-p.ensures.number a.work.now in
     record { answer = q.0; numbers = q.1.0; after = q.1.1.0; leaves_work = q.1.1.1 }
 
 pub unwrap-requires : goal.unwrap-requires
@@ -43,5 +43,5 @@ returns g c =
     let a = c.args in
     let time = g.K.Kind.time a.kind in
     let e = rw (c.in_ok-p.ensures.count, c.in_ok-p.ensures.pick) at c.on_seat.ensures in
-    let q = step_done a.work.now a.seat a.pick time (bench_of a.seats a.rest.now a.drape.now a.pins.now) (sym c.in_ok-p.ensures.number) _ _ a.work.now _ e.value e.drape_after in
+    let q = step_done a.work.now a.seat a.pick time (bench_of a.seats.now a.rest.now a.drape.now a.pins.now) (sym c.in_ok-p.ensures.number) _ _ a.work.now _ e.value e.drape_after in
     record { answer = q.0; numbers = q.1.0; after = q.1.1.0; leaves_work = q.1.1.1 }
