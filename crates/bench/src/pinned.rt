@@ -7,7 +7,8 @@ use matrix::pins;
 use vectors::vec3::Vec3;
 
 // The old numbers of vertex i where their bytes pin, else the new ones. Apart from matrix's
-// `row_unless_fixed`, which has four entries and sets 0.
+// `row_unless_fixed`, which has four entries and sets 0. The bound of i is a clause here and at three more:
+// a type for it would be made for one call.
 #[tactic(auto, unfolding(crate::specs::Update::vec3_unless_pinned))]
 pub(crate) fn vec3_unless_pinned(pins: &PinPart, i: usize, old: Vec3, new: Vec3) -> Vec3
     requires { i < 32 }

@@ -8,7 +8,8 @@ ghost use Rattle.bench.specs.Requests.{padded};
 use crate::{areas, parts};
 
 // Everything that the seat has in the areas becomes 0. Public calls are lent slices, so the areas' lengths
-// are clauses: arrays would have to be made of them at each caller, in three lines.
+// are clauses: arrays would have to be made of them at each caller, in three lines. The seat's three places
+// are products of three constants, here, in `lay` and in steps: a function would be told the constant.
 pub(crate) fn clear(rest: &mut [f64], drape: &mut [f64], pins: &mut [u8], seat: usize)
     requires seat_lt_seats { seat < seats }
     requires rest_len { length rest.old ≡ rest_numbers }

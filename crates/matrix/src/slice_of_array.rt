@@ -1,5 +1,6 @@
 // Vectors of n rows of four, each at its place in the area: `to`, `from`, `a` and `b` are where a
-// vector's first number stands.
+// vector's first number stands. They are several, so their places are arguments, and clauses say that
+// these lie in the area and apart.
 ghost use Rattle.std.specs.Prelude.{◌≡◌, ◌+◌, ◌*◌, ◌≤◌, length};
 ghost use Rattle.matrix.specs.Parts.{put, Apart};
 ghost use Rattle.matrix.specs.Rows.{rows4, flat4};

@@ -15,7 +15,7 @@ use vectors::mat4::Mat4;
 use vectors::vec4::Vec4;
 
 // Whether all n that stand one behind the other from `at` on are finite.
-// `all` over the range was tried: its early end takes 1.3 hundredths more instructions.
+// `all` over the range was tried: its early end takes 1.3 % more instructions.
 #[tactic(auto, unfolding(crate::specs::System::every, crate::specs::Parts::table))]
 pub fn rows_are_finite<R: Row + Finite>(work: &[f64], at: usize, n: usize) -> bool
     requires { at + R.WIDTH * n ≤ length work.now }

@@ -24,7 +24,8 @@ impl Vertices {
     }
 }
 
-// The edge of a strand from one vertex to the next.
+// The edge of a strand from one vertex to the next. The index of one vertex, or of two that are near, has
+// its bound in a clause: a type for it would be made for one call.
 #[derive(Clone, Copy)]
 pub struct Edge {
     pub n: Vertices,
