@@ -29,7 +29,7 @@ fn given_fit(positions: &[f64], frames: &[f64], settings: Settings) -> bool
         & given::good_settings(settings)
 }
 
-// Whether it is refused, and why.
+// Whether it is refused, and why. What a load is given goes one by one, as document 01 gives it.
 fn asked(
     seats: Record,
     rest: &[f64],

@@ -5,7 +5,7 @@ ghost use Rattle.matrix.specs.Parts.{part, put};
 use matrix::vertices::Vertices;
 
 // The list becomes the part. By `copy_from_slice` the compiled code would call memmove, which nothing
-// else needs.
+// else needs; with `iter_mut` zipped to the list the proof did not close.
 pub(crate) fn store(part: &mut [f64], list: &[f64])
     requires { length part.old ≡ length list.now }
     ensures { part.new ≡ list.now }

@@ -42,7 +42,8 @@ pub(crate) fn positions_are_finite(
     (0..n.count).all(|i| position_after(work, drape, pins, i).is_finite())
 }
 
-// The positions after the step become those of the drape.
+// The positions after the step become those of the drape. Such a loop stands in five functions: a closure
+// for what is stored would have to read the area that is written.
 #[tactic(auto, unfolding(crate::specs::Step::positions_after))]
 pub(crate) fn store_positions(drape: &mut DrapePart, work: &Work, pins: &PinPart, n: Vertices)
     ensures { drape.new ≡ put drape.old place_positions (flat3 (positions_after n.count pins.now drape.old (rows3 work.now area.place_positions n.count))) }

@@ -38,7 +38,7 @@ impl From<Refusal> for u8 {
     }
 }
 
-// The number that an outcome tells, 0 where nothing is refused.
+// The number that an outcome tells, 0 where nothing is refused. No `From`: a Result is no type of this crate.
 #[tactic(auto, unfolding(crate::specs::Refusals::told))]
 pub fn told<T: Copy>(outcome: Result<T, Refusal>) -> u8
     ensures { result ≡ told outcome }

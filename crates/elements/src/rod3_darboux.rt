@@ -123,6 +123,7 @@ pub fn rod_frame_gradient(len: f64, frame: RodFrame) -> FrameGradient
     }
 }
 
+// By `default`, and named for the clause that its callers rest on.
 #[tactic(auto, unfolding(crate::specs::Darboux::no_gradient))]
 fn no_gradient() -> Gradient
     ensures { result ≡ no_gradient }

@@ -14,7 +14,8 @@ use vectors::vec3::Vec3;
 pub const WORK: usize = 3264;
 
 // How much of each area a call is lent, at most what a Bench has. A look and its companion are lent all that
-// they ask for. Beside the areas, since wrong lengths are among what the examples show.
+// they ask for. Beside the areas, since wrong lengths are among what the examples show; replay has the like of it
+// and of a Bench, but no library is of both programs.
 #[derive(Clone, Copy)]
 pub struct Lengths {
     pub rest: usize,

@@ -85,6 +85,7 @@ fn lent(rt: &impl Print, what: &str, mut bench: Bench) -> io::Result<()> {
     print::answer(rt, what, bench.load(0, Strand::default()))
 }
 
+// Length by length: a literal with `..` of what has ghost fields is not supported.
 fn show_lengths(rt: &impl Print) -> io::Result<()> {
     let mut bench = Bench::default();
     bench.lent.rest = REST - 1;

@@ -41,7 +41,8 @@ fn bend_between(a: EdgeFrames, b: EdgeFrames, k: Vec3) -> Bend
 }
 
 // One vertex i of the two from k on: its gradient, with 0 for the twist, and its blocks with both.
-// Apart from `add_bend_row`: a loop over a run of blocks would need its definition and an invariant.
+// Apart from `add_bend_row`, as the functions below are for stretch and bend: a loop over a run of vertices
+// or blocks would need its definition and an invariant.
 fn add_stretch_row(work: &mut Work, n: Vertices, i: usize, k: usize, g: Vec3, b0: Mat4, b1: Mat4)
     requires k_bound { k + 1 < n.count }
     requires k_le_i { (k ≤ i) × (i ≤ k + 1) }
@@ -150,7 +151,8 @@ fn clear(work: &mut Work, n: Vertices)
 }
 
 // The system of the strand whose shape is staged, from its rest positions and frames; its energy is
-// answered. `rest` and `axes` are slices: array types would ask more of callers.
+// answered. `rest` and `axes` are slices: array types would ask more of callers. They and the area are lent
+// one by one, as they are below: a struct of what is lent is not covered when its fields are lent again.
 pub fn wdwddw_hair_system(
     work: &mut Work,
     n: Vertices,

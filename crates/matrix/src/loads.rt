@@ -22,22 +22,12 @@ const PICK_STIFFNESS: f64 = 16.0;
 fn pick_block() -> Mat4
     ensures { result ≡ pick_block }
 {
-    let zero = Vec4::default();
-    Mat4 {
-        c0: Vec4 {
-            x: PICK_STIFFNESS,
-            ..zero
-        },
-        c1: Vec4 {
-            y: PICK_STIFFNESS,
-            ..zero
-        },
-        c2: Vec4 {
-            z: PICK_STIFFNESS,
-            ..zero
-        },
-        c3: zero,
-    }
+    system::diagonal(Vec4 {
+        x: PICK_STIFFNESS,
+        y: PICK_STIFFNESS,
+        z: PICK_STIFFNESS,
+        w: 0.0,
+    })
 }
 
 // c added to the three numbers of a position; the twist's stays.

@@ -13,7 +13,7 @@ ghost use Rattle.matrix.specs.Fixed.{fixed_where, with_fixed, with_pins};
 use crate::area::Work;
 use crate::rows::Row;
 use crate::vertices::Vertices;
-use crate::{area, layout};
+use crate::{area, layout, system};
 use vectors::mat4::Mat4;
 use vectors::vec4::Vec4;
 
@@ -77,13 +77,12 @@ fn pinned_columns(diagonal: bool) -> Mat4
     ensures { result ≡ pinned_columns diagonal }
 {
     let one = if diagonal { 1.0 } else { 0.0 };
-    let zero = Vec4::default();
-    Mat4 {
-        c0: Vec4 { x: one, ..zero },
-        c1: Vec4 { y: one, ..zero },
-        c2: Vec4 { z: one, ..zero },
-        c3: Vec4 { w: one, ..zero },
-    }
+    system::diagonal(Vec4 {
+        x: one,
+        y: one,
+        z: one,
+        w: one,
+    })
 }
 
 // The block of row i and column j gets its pins.

@@ -1,5 +1,9 @@
-// The assembled system as a whole: its energy, its gradient and its blocks.
+// The assembled system as a whole: its energy, its gradient and its blocks. Who writes it leaves what stands
+// after the vectors. That is said of the area before and after, which no type does, so it is a clause of each.
 ghost use Rattle.std.specs.Prelude.{◌≡◌, ◌+◌, ◌*◌, ◌≤◌, ◌<◌, length};
+ghost use Rattle.vectors.specs.Number.{plus_zero};
+ghost use Rattle.vectors.specs.Vec4.{vec4};
+ghost use Rattle.vectors.specs.Mat4.{mat4};
 ghost use Rattle.matrix.specs.Parts.{table};
 ghost use Rattle.matrix.specs.Layout.{Near};
 ghost use Rattle.matrix.specs.Area.{after_vectors};
@@ -37,7 +41,8 @@ pub fn is_finite(energy: f64, work: &Work, n: Vertices) -> bool
         & rows_are_finite::<Mat4>(work, 0, 5 * n.count - 6)
 }
 
-// v added to the gradient of vertex i.
+// v added to the gradient of vertex i. Load, change and store stand here, below and in loads and pins: a
+// closure for the change would need a definition of what it is told.
 pub(crate) fn add_gradient(work: &mut Work, n: Vertices, i: usize, v: Vec4)
     requires i_lt_n { i < n.count }
     ensures work_after { system_at n.count work.new ≡ plus_gradient n.count i v (system_at n.count work.old) }
@@ -58,6 +63,19 @@ pub(crate) fn add_block(work: &mut Work, n: Vertices, i: usize, j: usize, m: Mat
     let at = 16 * layout::block_place(n, i, j);
     let b = Mat4::load(work, at);
     (b + m).store(work, at);
+}
+
+// The block with d on its diagonal, 0 elsewhere.
+pub(crate) fn diagonal(d: Vec4) -> Mat4
+    ensures { result ≡ mat4 (vec4 d.x plus_zero plus_zero plus_zero) (vec4 plus_zero d.y plus_zero plus_zero) (vec4 plus_zero plus_zero d.z plus_zero) (vec4 plus_zero plus_zero plus_zero d.w) }
+{
+    let zero = Vec4::default();
+    Mat4 {
+        c0: Vec4 { x: d.x, ..zero },
+        c1: Vec4 { y: d.y, ..zero },
+        c2: Vec4 { z: d.z, ..zero },
+        c3: Vec4 { w: d.w, ..zero },
+    }
 }
 
 // c added to the three diagonal entries of positions; the twist's stays.

@@ -2,9 +2,10 @@
 use crate::areas::Areas;
 use crate::call::{Asked, Call, Load};
 use crate::lent::Lent;
-use crate::look::{Shown, StoredLook};
+use crate::look::StoredLook;
 use crate::stored::{Stored, first_other};
 use bench::answers::{Pick, StepAnswer};
+use bench::look::Area;
 use bench::refusal::Refusal;
 use bench::{load, look, pin, refusal, steps, unload};
 
@@ -115,8 +116,8 @@ impl Areas {
     // Whether the numbers stand in the area as it is lent, from the place on.
     fn holds(&self, lent: Lent, stored: StoredLook<'_>) -> bool {
         let numbers = match stored.area {
-            Shown::Rest => lent.rest.of(&self.rest),
-            Shown::Drape => lent.drape.of(&self.drape),
+            Area::Rest => lent.rest.of(&self.rest),
+            Area::Drape => lent.drape.of(&self.drape),
         };
         numbers
             .get(stored.place..)

@@ -21,9 +21,9 @@ pub struct Expected {
     pub pins: [u64; PINS],
 }
 
-impl Expected {
-    // Those of a new bench.
-    pub fn new() -> Expected {
+// Those of a new bench.
+impl Default for Expected {
+    fn default() -> Expected {
         Expected {
             counts: [0; SEATS],
             settings: [0; SETTINGS],
@@ -32,7 +32,9 @@ impl Expected {
             pins: [0; PINS],
         }
     }
+}
 
+impl Expected {
     // Those of each seat.
     pub fn settings(&self) -> &[[u64; settings::NUMBERS]]
         ensures { length result.now ≡ SEATS }

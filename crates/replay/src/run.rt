@@ -36,7 +36,7 @@ struct Replay<R> {
 pub fn run<R: BufRead + Drop>(alloc: Global, reader: R) -> io::Result<Tally> {
     let mut replay = Replay {
         lines: Lines::new(reader),
-        expected: Expected::new(),
+        expected: Expected::default(),
         alloc,
     };
     let mut tally = Tally::default();

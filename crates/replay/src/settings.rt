@@ -1,4 +1,4 @@
-// A seat's settings and the five numbers that they are stored as.
+// A seat's settings and the five numbers that they are stored as. No `From`: both types are other crates'.
 use crate::stored::Stored;
 use bench::seats::Settings;
 

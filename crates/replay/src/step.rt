@@ -4,7 +4,7 @@ use crate::stored::Stored;
 use crate::words::Words;
 use bench::answers::StepAnswer;
 
-// Of a step that is refused all but the number of the refusal are zeros.
+// Of a step that is refused all but the number of the refusal are zeros. It is any number, as in call.rt.
 #[derive(Clone, Copy)]
 pub struct StoredStep {
     pub refusal: u64,

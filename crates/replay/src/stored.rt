@@ -22,7 +22,7 @@ impl Stored for f64 {
     }
 }
 
-// What a word that is no byte is taken for. It stands for none.
+// What a word that is no byte is taken for. It stands for none; an Option would leave the area without a byte.
 const NO_BYTE: u8 = u8::MAX;
 
 impl Stored for u8 {

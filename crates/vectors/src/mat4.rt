@@ -31,7 +31,8 @@ impl Add for Mat4 {
     }
 }
 
-// The block m with zeros beside and below it, and w at place 15.
+// The block m with zeros beside and below it, and w at place 15. No `From`: of two values, by the Rust's
+// name.
 #[tactic(auto, unfolding(crate::specs::Mat4::mat4_from_mat3))]
 pub fn from_mat3_adding_w(m: Mat3, w: f64) -> Mat4
     ensures { result ≡ mat4_from_mat3 m w }

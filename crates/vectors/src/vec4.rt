@@ -53,6 +53,7 @@ pub fn dot(a: Vec4, b: Vec4) -> f64
     0.0 + a.x * b.x + a.y * b.y + a.z * b.z + a.w * b.w
 }
 
+// No `From`: of two values, by the Rust's name.
 #[tactic(auto, unfolding(crate::specs::Vec4::vec4_from_vec3))]
 pub fn from_vec3(v: Vec3, w: f64) -> Vec4
     ensures { result ≡ vec4_from_vec3 v w }

@@ -61,7 +61,8 @@ fn entrywise(a: Vec3, b: Vec3) -> Vec3
     }
 }
 
-// The three gradients of n, each times an entry of s.
+// The three gradients of n, each times an entry of s. They are fields of their own and no block, of which
+// `vec3::mult_mat3_array_of_array` has the like.
 #[tactic(auto, unfolding(crate::specs::Bend::weighted_sum, vectors::specs::Vec3::vec3_add_three))]
 fn weighted_sum(n: BendNode, s: Vec3) -> Vec3
     ensures { result ≡ weighted_sum n s }
