@@ -40,8 +40,8 @@ pub type DrapePart = [f64; DRAPE_PART];
 
 pub type PinPart = [u8; PIN_PART];
 
-// Whether the three areas have their lengths. They are lent one by one: a struct of borrowed parts was
-// tried, and the checker does not cover a field that is a reference when it is lent again.
+// Whether the three areas have their lengths. They are lent one by one: of a struct that holds what is
+// written, the checker does not cover a field that is lent again.
 pub(crate) fn are_whole(rest: &[f64], drape: &[f64], pins: &[u8]) -> bool
     ensures { result ≡ (eqb (length rest.now) rest_numbers && eqb (length drape.now) drape_numbers && eqb (length pins.now) pin_bytes) }
 {

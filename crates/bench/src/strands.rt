@@ -27,8 +27,7 @@ pub(crate) fn clear(rest: &mut [f64], drape: &mut [f64], pins: &mut [u8], seat: 
     pins[p..p + areas::PIN_PART].fill(0);
 }
 
-// The list, and zeros up to the numbers of 32 vertices. A type for a list of at most so many numbers would
-// hold a reference, which the checker does not cover when it is lent again.
+// The list, and zeros up to the numbers of 32 vertices.
 fn pad(area: &mut [f64], list: &[f64])
     requires area_len { length area.old ≡ vector_part }
     requires list_len { length list.now ≤ vector_part }

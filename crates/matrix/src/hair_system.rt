@@ -151,8 +151,7 @@ fn clear(work: &mut Work, n: Vertices)
 }
 
 // The system of the strand whose shape is staged, from its rest positions and frames; its energy is
-// answered. `rest` and `axes` are slices: array types would ask more of callers. They and the area are lent
-// one by one, as they are below: a struct of what is lent is not covered when its fields are lent again.
+// answered. `rest` and `axes` are slices: array types would ask more of callers.
 pub fn wdwddw_hair_system(
     work: &mut Work,
     n: Vertices,
