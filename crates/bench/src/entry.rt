@@ -1,5 +1,6 @@
 // What every call on a seat is asked first: whether the areas that it is lent and the record are good,
-// whether there is such a seat, and whether it is taken. `long` is whether the areas have their lengths.
+// whether there is such a seat, and whether it is taken. `long` is whether the areas have their lengths, a
+// bool, since each call is lent others.
 ghost use Rattle.std.specs.Prelude.{◌≡◌, [], ◌∷◌, ◌++◌, get_or, IfOk};
 ghost use Rattle.bench.specs.Rows.{first};
 ghost use Rattle.bench.specs.Refusals.{told};

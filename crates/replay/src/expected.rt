@@ -50,7 +50,8 @@ impl Expected {
         }
     }
 
-    // The places of an area. Where there is no such area it has none, so that a run of no words fits there.
+    // The places of an area. Where there is no such area it has none, and no error is made of it: a run of no
+    // words fits there, and is not malformed.
     fn area_mut(&mut self, area: Option<Area>) -> &mut [u64] {
         match area {
             Some(Area::Counts) => &mut self.counts,

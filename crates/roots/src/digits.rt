@@ -11,7 +11,8 @@ fn digit(root: u64, rem: u64, unit: u64) -> u64
     if rem < root + unit { 0 } else { 1 }
 }
 
-// x for the digit 0, y for the digit 1. Compiled to a conditional move.
+// x for the digit 0, y for the digit 1. Compiled to a conditional move. Apart from `unless_pinned` of
+// matrix, which is of a pin's byte and promises an equation: neither crate needs the other.
 pub fn chosen(digit: u64, x: u64, y: u64) -> u64
     ensures { (digit ≡ 0 → result ≡ x) × (0 < digit → result ≡ y) }
 {

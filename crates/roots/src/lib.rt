@@ -26,6 +26,7 @@ fn packed(m: u64, h: u64) -> u64
 }
 
 // The same for any m above 0: a subnormal number has fewer digits, and is first brought to 53 or 54.
+// A recursion, since the invariant of a loop would say the contract again.
 fn scaled(m: u64, h: u64) -> u64
     requires { (0 < m) × (m < 2 ^ 54) × (2 ^ 54 ≤ m * 4 ^ h) × (h ≤ 2000) }
     ensures { RootBits (m * 2 ^ 52 * 4 ^ h) result }
