@@ -11,8 +11,10 @@ use Rattle.elements.specs.declared.spring3.Stretch.{Stretch}
 use Rattle.elements.specs.declared.rod3_darboux.EdgeFrame.{EdgeFrame}
 use Rattle.elements.specs.declared.rod3_darboux.bend.Bend.{Bend}
 use Rattle.matrix.specs.declared.edges.EdgeFrames.{EdgeFrames}
+use Rattle.matrix.specs.declared.lists.Lists.{Lists}
 use Rattle.matrix.specs.Parts.{put, table}
-use Rattle.matrix.specs.HairSystem.{Element, Shape, vec3_at, stretch_element}
+use Rattle.matrix.specs.Rows.{rows3}
+use Rattle.matrix.specs.HairSystem.{Element, Shape, shape, vec3_at, stretch_element}
 
 -- the length of the edge from vertex i, and those of the first m edges in 32 places
 unfoldable pub length_at : List Vec3 → ℕ → Float
@@ -27,6 +29,10 @@ stretch_by staged k i ini = wdwddw_squared_length_difference k (vec3_at staged i
 
 unfoldable pub stretches_by : ℕ → List Float → List Vec3 → Float → List Element
 stretches_by n ini staged k = table (n - 1) (λ i. stretch_element i (stretch_by staged k i (get_or ini i nan)))
+
+-- the shape that is read from the two lists
+abbrev pub shape_of : Lists → Shape
+shape_of l = shape (rows3 l.xyz.now 0 l.n.count) (rows3 l.framex.now 0 l.n.count)
 
 -- the edge from vertex i, and the bend and twist of an edge and the next one
 unfoldable pub frame_at : Shape → ℕ → EdgeFrame

@@ -23,7 +23,9 @@ pub const VELOCITIES: usize = 3168;
 // How many numbers it has in all.
 pub const NUMBERS: usize = 3264;
 
-// One array with places and no struct of parts, as document 01 has it.
+// One array with places and no struct of parts, as document 01 has it. It is handed on beside n and
+// not in a struct: the checker does not cover a `&mut` field that is lent again, and one that is read would
+// bring no length to tell.
 pub type Work = [f64; NUMBERS];
 
 // Three numbers for each of as many vertices as a strand may have.

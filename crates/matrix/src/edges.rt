@@ -1,14 +1,15 @@
 // The edges of a strand: their lengths, each taken once, and their frames at rest and as they are
 // staged.
-ghost use Rattle.std.specs.Prelude.{◌≡◌, ◌+◌, ◌-◌, ◌*◌, ◌≤◌, ◌<◌, length};
+ghost use Rattle.std.specs.Prelude.{◌≡◌, ◌+◌, ◌-◌, ◌<◌};
 ghost use Rattle.matrix.specs.Rows.{rows3};
 ghost use Rattle.matrix.specs.Area.{place_positions};
-ghost use Rattle.matrix.specs.HairSystem.{shape, staged_shape};
-ghost use Rattle.matrix.specs.Edges.{length_at, edge_lengths, frame_at, frames_at};
+ghost use Rattle.matrix.specs.HairSystem.{staged_shape};
+ghost use Rattle.matrix.specs.Edges.{length_at, edge_lengths, shape_of, frame_at, frames_at};
 
 use crate::area::{Lengths, Work};
+use crate::lists::Lists;
 use crate::rows::Row;
-use crate::vertices::{Edge, MOST, Vertices};
+use crate::vertices::{MOST, Vertices};
 use crate::{area, rows};
 use elements::rod3_darboux;
 use elements::rod3_darboux::EdgeFrame;
@@ -22,51 +23,61 @@ pub struct EdgeFrames {
     pub def: EdgeFrame,
 }
 
-// Its length.
-fn length_at(xyz: &[f64], e: Edge) -> f64
-    requires { 3 * e.n.count ≤ length xyz.now }
-    ensures { result ≡ length_at (rows3 xyz.now 0 e.n.count) e.from }
+// The shape that is staged for n vertices.
+#[tactic(auto, unfolding(crate::specs::HairSystem::staged_shape))]
+pub fn staged(work: &Work, n: Vertices) -> Lists<'_>
+    ensures count { result.n ≡ n }
+    ensures value { shape_of result ≡ staged_shape n.count work.now }
 {
-    let (p0, p1) = rows::pair(xyz, 3 * e.from);
+    Lists {
+        n,
+        xyz: area::positions(work),
+        framex: area::frames(work),
+    }
+}
+
+// The length of the edge from vertex i. Here and below an index, with its bound, and no `Edge`: that would
+// hold the number of vertices a second time.
+fn length_at(s: Lists<'_>, i: usize) -> f64
+    requires { i + 1 < s.n.count }
+    ensures { result ≡ length_at (shape_of s.entry).positions i }
+{
+    let (p0, p1) = rows::pair(s.xyz, 3 * i);
     edge3::length(p0, p1).value
 }
 
 // The lengths of all edges, and 0 after them.
-pub fn edge_lengths(xyz: &[f64], n: Vertices) -> Lengths
-    requires { 3 * n.count ≤ length xyz.now }
-    ensures { result ≡ edge_lengths (n.count - 1) (rows3 xyz.now 0 n.count) }
+pub fn edge_lengths(s: Lists<'_>) -> Lengths
+    ensures { result ≡ edge_lengths (s.entry.n.count - 1) (shape_of s.entry).positions }
 {
     let mut lengths = [0.0; MOST];
-    for i in 0..n.count - 1 {
-        lengths[i] = length_at(xyz, Edge { n, from: i });
+    for i in 0..s.n.count - 1 {
+        lengths[i] = length_at(s, i);
     }
     lengths
 }
 
-// The edge with its frame; its length is known.
-fn frame_at(xyz: &[f64], framex: &[f64], e: Edge, len: f64) -> EdgeFrame
-    requires xyz_long { 3 * e.n.count ≤ length xyz.now }
-    requires framex_long { 3 * e.n.count ≤ length framex.now }
-    requires len_value { len ≡ length_at (rows3 xyz.now 0 e.n.count) e.from }
-    ensures { result ≡ frame_at (shape (rows3 xyz.now 0 e.n.count) (rows3 framex.now 0 e.n.count)) e.from }
+// The edge from vertex i with its frame; its length is known.
+fn frame_at(s: Lists<'_>, i: usize, len: f64) -> EdgeFrame
+    requires there { i + 1 < s.n.count }
+    requires len_value { len ≡ length_at (shape_of s).positions i }
+    ensures { result ≡ frame_at (shape_of s.entry) i }
 {
-    let (p0, p1) = rows::pair(xyz, 3 * e.from);
-    let x = Vec3::load(framex, 3 * e.from);
+    let (p0, p1) = rows::pair(s.xyz, 3 * i);
+    let x = Vec3::load(s.framex, 3 * i);
     rod3_darboux::edge_frame_of_length(p0, p1, x, len)
 }
 
-// The edge in both shapes, by its lengths there; `rest` and `axes` are the positions and
-// the x axes at rest.
+// That edge at rest and as it is staged, by its lengths there.
 #[tactic(auto, unfolding(crate::specs::HairSystem::staged_shape, crate::specs::Edges::frames_at))]
-pub fn frames_at(work: &Work, rest: &[f64], axes: &[f64], e: Edge, ini: f64, def: f64) -> EdgeFrames
-    requires rest_long { 3 * e.n.count ≤ length rest.now }
-    requires axes_long { 3 * e.n.count ≤ length axes.now }
-    requires ini_value { ini ≡ length_at (rows3 rest.now 0 e.n.count) e.from }
-    requires def_value { def ≡ length_at (rows3 work.now place_positions e.n.count) e.from }
-    ensures { result ≡ frames_at (shape (rows3 rest.now 0 e.n.count) (rows3 axes.now 0 e.n.count)) (staged_shape e.n.count work.now) e.from }
+pub fn frames_at(work: &Work, rest: Lists<'_>, i: usize, ini: f64, def: f64) -> EdgeFrames
+    requires there { i + 1 < rest.n.count }
+    requires ini_value { ini ≡ length_at (shape_of rest).positions i }
+    requires def_value { def ≡ length_at (rows3 work.now place_positions rest.n.count) i }
+    ensures { result ≡ frames_at (shape_of rest.entry) (staged_shape rest.entry.n.count work.now) i }
 {
     EdgeFrames {
-        ini: frame_at(rest, axes, e, ini),
-        def: frame_at(area::positions(work), area::frames(work), e, def),
+        ini: frame_at(rest, i, ini),
+        def: frame_at(staged(work, rest.n), i, def),
     }
 }

@@ -6,11 +6,12 @@ ghost use Rattle.vectors.specs.Vec4.{vec4_from_vec3};
 ghost use Rattle.matrix.specs.Rows.{rows3};
 ghost use Rattle.matrix.specs.Area.{place_positions, after_vectors};
 ghost use Rattle.matrix.specs.System.{system_at};
-ghost use Rattle.matrix.specs.Edges.{length_at, edge_lengths, bend_between, stretch_by, stretches_by};
+ghost use Rattle.matrix.specs.Edges.{length_at, edge_lengths, shape_of, bend_between, stretch_by, stretches_by};
 ghost use Rattle.matrix.specs.HairSystem.{stretch_element, bend_element, shape, staged_shape, bends, plus_gradient, plus_block, plus_element, plus_elements, sum_energies, assembled, hair_energy, hair_system};
 
 use crate::area::{Lengths, Work};
 use crate::edges::EdgeFrames;
+use crate::lists::Lists;
 use crate::vertices::{Edge, Vertices};
 use crate::{area, edges, rows, slice_of_array, system};
 use elements::rod3_darboux::bend;
@@ -110,29 +111,18 @@ fn add_stretches(work: &mut Work, n: Vertices, ini: &Lengths, def: &Lengths, k: 
 
 // All bend elements upward, added to the system, and their energies to w; the edges' lengths at rest
 // and as they are staged are known. The second edge of an element is the first of the next.
-fn add_bends(
-    work: &mut Work,
-    n: Vertices,
-    rest: &[f64],
-    axes: &[f64],
-    ini: &Lengths,
-    def: &Lengths,
-    k: Vec3,
-    w: f64,
-) -> f64
-    requires rest_long { 3 * n.count ≤ length rest.now }
-    requires axes_long { 3 * n.count ≤ length axes.now }
-    requires ini_value { ini.now ≡ edge_lengths (n.count - 1) (rows3 rest.now 0 n.count) }
-    requires def_value { def.now ≡ edge_lengths (n.count - 1) (rows3 work.old place_positions n.count) }
-    ensures value { result ≡ sum_energies w (bends n.count (shape (rows3 rest.now 0 n.count) (rows3 axes.now 0 n.count)) (staged_shape n.count work.old) k) }
-    ensures work_after { system_at n.count work.new ≡ plus_elements n.count (bends n.count (shape (rows3 rest.now 0 n.count) (rows3 axes.now 0 n.count)) (staged_shape n.count work.old) k) (system_at n.count work.old) }
+fn add_bends(work: &mut Work, rest: Lists<'_>, ini: &Lengths, def: &Lengths, k: Vec3, w: f64) -> f64
+    requires ini_value { ini.now ≡ edge_lengths (rest.n.count - 1) (shape_of rest).positions }
+    requires def_value { def.now ≡ edge_lengths (rest.n.count - 1) (rows3 work.old place_positions rest.n.count) }
+    ensures value { result ≡ sum_energies w (bends rest.entry.n.count (shape_of rest.entry) (staged_shape rest.entry.n.count work.old) k) }
+    ensures work_after { system_at rest.entry.n.count work.new ≡ plus_elements rest.entry.n.count (bends rest.entry.n.count (shape_of rest.entry) (staged_shape rest.entry.n.count work.old) k) (system_at rest.entry.n.count work.old) }
     ensures after_vectors_kept { after_vectors work.new ≡ after_vectors work.old }
 {
+    let n = rest.n;
     let mut sum = w;
-    let mut a = edges::frames_at(work, rest, axes, Edge { n, from: 0 }, ini[0], def[0]);
+    let mut a = edges::frames_at(work, rest, 0, ini[0], def[0]);
     for i in 0..n.count - 2 {
-        let next = Edge { n, from: i + 1 };
-        let b = edges::frames_at(work, rest, axes, next, ini[i + 1], def[i + 1]);
+        let b = edges::frames_at(work, rest, i + 1, ini[i + 1], def[i + 1]);
         let e = bend_between(a, b, k);
         sum += e.w;
         add_bend(work, n, i, e);
@@ -151,7 +141,8 @@ fn clear(work: &mut Work, n: Vertices)
 }
 
 // The system of the strand whose shape is staged, from its rest positions and frames; its energy is
-// answered. `rest` and `axes` are slices: array types would ask more of callers.
+// answered. `rest` and `axes` are slices: array types would ask more of callers, and a
+// `Lists` would change how they call.
 pub fn wdwddw_hair_system(
     work: &mut Work,
     n: Vertices,
@@ -166,12 +157,17 @@ pub fn wdwddw_hair_system(
     ensures work_after { system_at n.count work.new ≡ hair_system n.count (shape (rows3 rest.now 0 n.count) (rows3 axes.now 0 n.count)) (staged_shape n.count work.old) stretch bendtwist }
     ensures after_vectors_kept { after_vectors work.new ≡ after_vectors work.old }
 {
+    let shape = Lists {
+        n,
+        xyz: rest,
+        framex: axes,
+    };
     clear(work, n);
     // Two arrays: each is what one function makes of one shape.
-    let ini = edges::edge_lengths(rest, n);
-    let def = edges::edge_lengths(area::positions(work), n);
+    let ini = edges::edge_lengths(shape);
+    let def = edges::edge_lengths(edges::staged(work, n));
     let w = add_stretches(work, n, &ini, &def, stretch, 0.0);
-    let energy = add_bends(work, n, rest, axes, &ini, &def, bendtwist, w);
+    let energy = add_bends(work, shape, &ini, &def, bendtwist, w);
     system::add_to_diagonals(work, n, 0.0);
     energy
 }

@@ -6,6 +6,7 @@ pub mod conjugate_gradient;
 mod edges;
 pub mod hair_system;
 mod layout;
+mod lists;
 pub mod loads;
 pub mod pins;
 mod root_bound;

@@ -1,6 +1,7 @@
 // Vectors of n rows of four, each at its place in the area: `to`, `from`, `a` and `b` are where a
 // vector's first number stands. They are several, so their places are arguments, and clauses say that
-// these lie in the area and apart.
+// these lie in the area and apart. As slices the area would be split anew for each pair of them, and contracts
+// would have to join its parts to say what the whole area is afterwards.
 ghost use Rattle.std.specs.Prelude.{◌≡◌, ◌+◌, ◌*◌, ◌≤◌, length};
 ghost use Rattle.matrix.specs.Parts.{put, Apart};
 ghost use Rattle.matrix.specs.Rows.{rows4, flat4};

@@ -1,23 +1,29 @@
 -- Cleared, then measured, then all elements, then the damping; the staged shape stays throughout.
-use Rattle.std.proofs.Common.{◌-◌, sym, ap, ◌∙◌, arith}
+use Rattle.std.proofs.Common.{◌≡◌, ◌-◌, List, sym, ap, ◌∙◌, arith}
+use Rattle.std.specs.Prelude.{Float}
+use Rattle.matrix.specs.declared.lists.Lists.{Lists}
+use Rattle.matrix.specs.declared.vertices.Vertices.{Vertices}
 use Rattle.matrix.specs.Rows.{rows3}
 use Rattle.matrix.specs.Area.{place_positions}
-use Rattle.matrix.specs.HairSystem.{shape}
-use Rattle.matrix.specs.Edges.{edge_lengths}
+use Rattle.matrix.specs.HairSystem.{Shape, shape, staged_shape}
+use Rattle.matrix.specs.Edges.{edge_lengths, shape_of}
 use Rattle.matrix.proofs.Shapes.{rows3_kept}
 use Rattle.matrix.proofs.Assembly.{assembly}
 use Rattle.matrix.proofs.hair_system.wdwddw_hair_system.Goals as goal
 
+-- the lengths of the shape that is read from the area
+measured : (s : Lists) (n : Vertices) (l w : List Float) → l ≡ edge_lengths (s.n.count - 1) (shape_of s).positions → s.n ≡ n → shape_of s ≡ staged_shape n.count w → l ≡ edge_lengths (n.count - 1) (rows3 w place_positions n.count)
+unfolding staged_shape
+measured s n l w e d f = e ∙ ap (λ (x : Shape). edge_lengths (s.n.count - 1) x.positions) f ∙ ap (λ (m : Vertices). edge_lengths (m.count - 1) (rows3 w place_positions n.count)) d
+
 pub add_stretches-w-requires : goal.add_stretches-w-requires
-add_stretches-w-requires c =
-    let n = c.args.n in
-    record { def_value = c.edge_lengths-def.ensures ∙ ap (edge_lengths (n.count - 1)) (c.positions.ensures n.count n.in_range.1) }
+add_stretches-w-requires c = record { def_value = measured c.staged.result _ _ _ c.edge_lengths-def.ensures c.staged.ensures.count c.staged.ensures.value }
 
 pub add_bends-energy-requires-clause-def_value : goal.add_bends-energy-requires-clause-def_value
 add_bends-energy-requires-clause-def_value c =
     let n = c.args.n in
-    c.edge_lengths-def.ensures
-    ∙ ap (edge_lengths (n.count - 1)) (c.positions.ensures n.count n.in_range.1 ∙ sym (rows3_kept _ _ c.add_stretches-w.ensures.after_vectors_kept place_positions n.count (omega arith)))
+    measured c.staged.result _ _ _ c.edge_lengths-def.ensures c.staged.ensures.count c.staged.ensures.value
+    ∙ sym (ap (edge_lengths (n.count - 1)) (rows3_kept _ _ c.add_stretches-w.ensures.after_vectors_kept place_positions n.count (omega arith)))
 
 pub returns : goal.returns
 returns c =

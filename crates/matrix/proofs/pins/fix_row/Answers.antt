@@ -8,15 +8,15 @@ use Rattle.matrix.proofs.pins.fix_row.Goals as goal
 
 pub loop-j-init : goal.loop-j-init
 loop-j-init c =
-    let n = c.args.n.count in
+    let n = c.args.pins.n.count in
     let k = c.args.i in
-    rw c.count_before.ensures (fixed_first n c.args.pins.now (columns_before k (k - before k)) _ (no_column n k c.requires.i_lt_n))
+    rw c.count_before.ensures (fixed_first n c.args.pins.bytes.now (columns_before k (k - before k)) _ (no_column n k c.requires))
 
 pub fix_block-requires : goal.fix_block-requires
 fix_block-requires c =
     let b = c.count_before.ensures in
     let a = c.count_after.ensures in
-    record { pins_long = c.requires.pins_long; near = column_inside c.args.n.count c.args.i c.requires.i_lt_n c.loop-j.j (omega arith) (omega arith) }
+    column_inside c.args.pins.n.count c.args.i c.requires c.loop-j.j (omega arith) (omega arith)
 
 pub loop-j-preserved : goal.loop-j-preserved
 loop-j-preserved c =
@@ -27,13 +27,13 @@ loop-j-preserved c =
 
 pub returns : goal.returns
 returns c =
-    let n = c.args.n.count in
+    let n = c.args.pins.n.count in
     let l = c.loop-j in
     let a = c.count_after.ensures in
     let b = c.count_before.ensures in
     let k = c.args.i in
     let e : l.j ≡ k + after n k + 1 = omega (arith, before_le k) in
     record {
-      work_after = rw e at l.invariant.system ∙ fixed_ext n c.args.pins.now (columns_before k (k + after n k + 1)) (λ p q. eqb k p) _ (every_column n k c.requires.i_lt_n);
+      work_after = rw e at l.invariant.system ∙ fixed_ext n c.args.pins.bytes.now (columns_before k (k + after n k + 1)) (λ p q. eqb k p) _ (every_column n k c.requires);
       after_vectors_kept = l.invariant.staged;
     }

@@ -20,9 +20,9 @@ pub loop-i-preserved : goal.loop-i-preserved
 loop-i-preserved c =
     let l = c.loop-i in
     let old = unstored l.invariant (c.args.to + 4 * l.i) (λ j a b x y. omega arith) in
-    stored_more l.invariant c.store.ensures (c.row_unless_fixed.ensures ∙ ap (row_unless_fixed c.args.pins.now (4 * l.i)) (c.load-v.ensures ∙ old))
+    stored_more l.invariant c.store.ensures (c.row_unless_fixed.ensures ∙ ap (row_unless_fixed c.args.pins.bytes.now (4 * l.i)) (c.load-v.ensures ∙ old))
 
 pub returns : goal.returns
 returns c =
     let a = c.args in
-    stored_all c.loop-i.invariant (omega arith) ∙ ap (λ (l : List Vec4). put a.work.now a.to (flat4 l)) (fixed_rows a.work.now a.to a.pins.now a.n.count)
+    stored_all c.loop-i.invariant (omega arith) ∙ ap (λ (l : List Vec4). put a.work.now a.to (flat4 l)) (fixed_rows a.work.now a.to a.pins.bytes.now a.pins.n.count)
