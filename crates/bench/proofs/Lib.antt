@@ -30,6 +30,7 @@ pub mod Beginning
 pub mod Finishing
 pub mod Ending
 pub mod Composed
+pub mod Chunks
 pub mod Components
 pub mod StoredDrape
 pub mod CopyFinite

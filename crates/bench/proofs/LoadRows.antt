@@ -1,9 +1,8 @@
--- The rows of load as its code tests them, and what holds where it is accepted: areas and lists have their lengths.
+-- The rows of load as its code tests them, and what holds of the lists where they are taken: they have their lengths.
 use mathlib.Core.Path.{◌≡◌, refl}
 use mathlib.Core.Bool.{true, not, cond, ◌&&◌}
 use mathlib.Core.List.{List, [], ◌∷◌, ◌++◌}
-use Prim.Native.Nat.{ℕ, ◌*◌, ◌≤◌}
-use native.Mathlib.Omega.{arith}
+use Prim.Native.Nat.{ℕ, ◌*◌}
 use lib.Dec.{eqb}
 use lib.ListN.{length, get_or}
 use lib.Ieee.{Float}
@@ -12,17 +11,16 @@ use Rattle.vectors.specs.Finite.{is_finite}
 use Rattle.matrix.specs.Rows.{rows3}
 use Rattle.matrix.specs.System.{every}
 use Rattle.bench.specs.declared.seats.Record.{Record}
-use Rattle.bench.specs.Areas.{rest_numbers, drape_numbers, pin_bytes, vector_part}
+use Rattle.bench.specs.Areas.{rest_numbers, drape_numbers, pin_bytes}
 use Rattle.bench.specs.Strand.{strand_of, bench_of}
 use Rattle.bench.specs.Given.{good_count, good_settings, edges_fit}
 use Rattle.bench.specs.Rows.{all, first}
 use Rattle.bench.specs.Asks.{Load, load, call}
 use Rattle.bench.specs.Requests.{vacant, case_at}
 use Rattle.bench.specs.Calls.{rest_long, drape_long, pins_long, lent_long, seat_rows, case_of, done_of, number_of}
-use Rattle.bench.proofs.RowLaws.{demands_of, held_at, passed}
+use Rattle.bench.proofs.RowLaws.{held_at}
 use Rattle.bench.proofs.EntryRows.{all_three, test_one, test_three, no_test, entry_then}
 use Rattle.bench.proofs.GoodSeats.{Between, between}
-use Rattle.bench.proofs.Entered.{Entered, entered}
 
 -- ---- what 4 asks of a load
 pub record Sized (g : Load) : Type 0 where
@@ -45,15 +43,3 @@ module _ (r : Record) (rest drape : List Float) (pins : List ℕ) (s : ℕ) (g :
   load_tests k e =
       let b = bench_of r rest drape pins in
       entry_then _ s r _ (all_three (rest_long b) (drape_long b) (pins_long b)) _ refl _ _ (test_three 4 _ _ _ _ _ (test_three 6 _ _ _ _ _ (test_one 7 _ _ _ no_test))) k e
-
-  pub record Loads : Type 0 where
-    pub entry : Entered [] s (load g) (bench_of r rest drape pins)
-    pub positions : length g.positions ≤ vector_part
-    pub frames : length g.frames ≤ vector_part
-
-  pub loads : (k : ℕ) → k ≡ number_of (call s (load g)) (bench_of r rest drape pins) → k ≡ 0 → Loads
-  unfolding case_at demands_of every
-  loads k e z =
-      let h = entered [] s (load g) (bench_of r rest drape pins) k e z in
-      let q = sized g (passed 4 _ refl h.rows) in
-      record { entry = h; positions = omega (arith, q.count.most, q.positions); frames = omega (arith, q.count.most, q.frames) }

@@ -1,5 +1,5 @@
 // The call load: a strand is laid on an empty seat.
-ghost use Rattle.std.specs.Prelude.{◌≡◌, ◌&&◌, ◌*◌, eqb};
+ghost use Rattle.std.specs.Prelude.{◌≡◌, ◌&&◌, ◌*◌, eqb, IfOk};
 ghost use Rattle.vectors.specs.Finite.{is_finite};
 ghost use Rattle.matrix.specs.System.{every};
 ghost use Rattle.bench.specs.Strand.{bench_of};
@@ -11,6 +11,7 @@ ghost use Rattle.bench.specs.Calls.{number_of, answer_of, after_of};
 
 use crate::refusal::Refusal;
 use crate::seats::{Record, Settings};
+use crate::strands::Lists;
 use crate::{areas, entry, given, seats, strands};
 
 // Whether n is a strand's number of vertices and both lists have three numbers for each.
@@ -29,8 +30,9 @@ fn given_fit(positions: &[f64], frames: &[f64], settings: Settings) -> bool
         & given::good_settings(settings)
 }
 
-// Whether it is refused, and why. What a load is given goes one by one, as document 01 gives it.
-fn asked(
+// What it is refused with, else the two lists. What a load is given goes one by one, as document 01
+// gives it: a struct of it would be made for this call alone.
+fn asked<'a>(
     seats: Record,
     rest: &[f64],
     drape: &[f64],
@@ -38,10 +40,11 @@ fn asked(
     seat: usize,
     n: usize,
     settings: Settings,
-    positions: &[f64],
-    frames: &[f64],
-) -> Result<(), Refusal>
-    ensures { told result ≡ number_of (call seat (load (load_of n settings positions.now frames.now))) (bench_of seats rest.now drape.now pins.now) }
+    positions: &'a [f64],
+    frames: &'a [f64],
+) -> Result<Lists<'a>, Refusal>
+    ensures number { told result ≡ number_of (call seat (load (load_of n settings positions.now frames.now))) (bench_of seats rest.now drape.now pins.now) }
+    ensures lists { IfOk result (λ l. (l.positions.now ≡ positions.now) × (l.frames.now ≡ frames.now)) }
 {
     let long = areas::are_whole(rest, drape, pins);
     entry::vacant(&seats, long, seat)?;
@@ -54,7 +57,7 @@ fn asked(
     if !given::edges_fit(positions, n) {
         return Err(Refusal::Edge);
     }
-    Ok(())
+    Ok(Lists { positions, frames })
 }
 
 // The whole of the seat's parts is written; the strand's working copy is its rest shape, too.
@@ -73,10 +76,10 @@ pub fn load_value(
     ensures answer { said (told result) ≡ answer_of (call seat (load (load_of n settings positions.now frames.now))) (bench_of seats rest.old drape.old pins.old) }
     ensures after { bench_of (record_after seats result) rest.new drape.new pins.new ≡ after_of (call seat (load (load_of n settings positions.now frames.now))) (bench_of seats rest.old drape.old pins.old) }
 {
-    asked(
+    let lists = asked(
         seats, rest, drape, pins, seat, n, settings, positions, frames,
     )?;
-    strands::lay(rest, drape, pins, seat, positions, frames);
+    strands::lay(rest, drape, pins, seat, lists);
     Ok(seats::seated(seats, seat, n, settings))
 }
 

@@ -58,7 +58,7 @@ pub struct Place {
     pub count: usize,
 }
 
-// Where what is shown stands, of the strand of n vertices on the seat.
+// Where what is shown stands, of the strand of n vertices on the seat. The place is a number, as C is told it.
 fn place_on(seat: usize, shown: Shown, n: Vertices) -> Place
     requires { seat < seats }
     ensures { result ≡ place_on seat (kind_number shown) n.count }

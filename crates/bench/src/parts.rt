@@ -4,8 +4,8 @@ ghost use Rattle.matrix.specs.Parts.{part, put};
 
 use matrix::vertices::Vertices;
 
-// The list becomes the part. By `copy_from_slice` the compiled code would call memmove, which nothing
-// else needs; with `iter_mut` zipped to the list the proof did not close.
+// The list becomes the part. By `copy_from_slice` the compiled code would call memmove, which nothing else
+// needs; after a loop over `iter_mut`, zipped to the list, a proof knows nothing of the part (tried).
 pub(crate) fn store(part: &mut [f64], list: &[f64])
     requires { length part.old ≡ length list.now }
     ensures { part.new ≡ list.now }

@@ -28,7 +28,7 @@ fn asked(
 }
 
 // The byte becomes the pin of a vertex's component. Document 01 refuses a component that there is not with
-// 5, so it is any number, and from there on an index.
+// 5, so it is any number, and from there on an index. The seat's place is a product, as in strands.
 pub fn pin(
     seats: Record,
     pins: &mut [u8],

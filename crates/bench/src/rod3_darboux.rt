@@ -1,6 +1,6 @@
 // How a strand's staged shape moves.
 ghost use Rattle.std.specs.Prelude.{◌≡◌, cond, ◌+◌, ◌*◌, ◌<◌};
-ghost use Rattle.vectors.specs.Vec3.{vec3_normalize, vec3_orthogonalize};
+ghost use Rattle.vectors.specs.Vec3.{vec3, vec3_normalize, vec3_orthogonalize};
 ghost use Rattle.matrix.specs.Parts.{put, table};
 ghost use Rattle.matrix.specs.Rows.{rows3, rows4, numbers3, flat3};
 ghost use Rattle.matrix.specs.Area.{place_u, place_positions, place_frames};
@@ -47,17 +47,21 @@ pub(crate) fn orthonormalize_framex_for_hair(work: &mut Work, n: Vertices)
     }
 }
 
+// The first three numbers of a row.
+fn xyz(v: Vec4) -> Vec3
+    ensures { result ≡ vec3 v.x v.y v.z }
+{
+    let Vec4 { x, y, z, .. } = v;
+    Vec3 { x, y, z }
+}
+
 // The edge's frame, turned as the solution moves the edge's ends and twists it.
 fn turned_frame(work: &Work, e: Edge) -> TurnedFrame
     ensures { result ≡ turn_at (staged_shape e.n.count work.now) (rows4 work.now place_u e.n.count) e.from }
 {
     let x = Vec3::load(work, area::FRAMES + 3 * e.from);
     let (a, b): (Vec4, Vec4) = rows::pair(work, area::U + 4 * e.from);
-    let dz = Vec3 {
-        x: a.x - b.x,
-        y: a.y - b.y,
-        z: a.z - b.z,
-    };
+    let dz = xyz(a) - xyz(b);
     turned::updated_rod_frame(x, along(work, e), dz, -a.w)
 }
 
@@ -93,12 +97,7 @@ fn moved(work: &Work, pins: &PinPart, n: Vertices, i: usize) -> Vec3
 {
     let p = Vec3::load(work, area::POSITIONS + 3 * i);
     let a = Vec4::load(work, area::U + 4 * i);
-    let q = Vec3 {
-        x: p.x - a.x,
-        y: p.y - a.y,
-        z: p.z - a.z,
-    };
-    pinned::vec3_unless_pinned(pins, i, p, q)
+    pinned::vec3_unless_pinned(pins, i, p, p - xyz(a))
 }
 
 // Every vertex moves against the solution.

@@ -61,15 +61,13 @@ fn on_seat<K: Kind>(
     ensures value { answered result ≡ step_answer (update_of (strand p.n.count g (part rest.now (rest_part * seat) rest_part) (part drape.old (drape_part * seat) drape_part) (part pins.now (pin_part * seat) pin_part)) p.pick (K.time kind)) }
     ensures drape_after { drape.new ≡ put drape.old (drape_part * seat) (step_drape (part drape.old (drape_part * seat) drape_part) (update_of (strand p.n.count g (part rest.now (rest_part * seat) rest_part) (part drape.old (drape_part * seat) drape_part) (part pins.now (pin_part * seat) pin_part)) p.pick (K.time kind))) }
 {
-    // Three products, as in strands.
-    let r = areas::REST_PART * seat;
+    // A product, as in strands.
     let d = areas::DRAPE_PART * seat;
-    let b = areas::PIN_PART * seat;
     on_parts(
         kind,
-        rest[r..r + areas::REST_PART].as_array().unwrap(),
+        &rest.as_chunks().0[seat],
         &mut drape[d..d + areas::DRAPE_PART],
-        pins[b..b + areas::PIN_PART].as_array().unwrap(),
+        &pins.as_chunks().0[seat],
         work,
         p,
         g,

@@ -11,17 +11,17 @@ use Rattle.bench.proofs.strands.lay.Goals as goal
 pub returns-clause-rest_after : goal.returns-clause-rest_after
 returns-clause-rest_after c =
     let a = c.args in
-    let p = length_padded a.positions.now c.requires.positions_len in
-    let f = length_padded a.frames.now c.requires.frames_len in
-    let long : length (padded a.positions.now ++ padded a.frames.now) ≡ rest_part = simp (length-append, p, f) in
+    let p = length_padded a.lists.positions.now a.lists.positions_fit in
+    let f = length_padded a.lists.frames.now a.lists.frames_fit in
+    let long : length (padded a.lists.positions.now ++ padded a.lists.frames.now) ≡ rest_part = simp (length-append, p, f) in
     put_over a.rest.now (rest_part * a.seat) rest_part _ _ (omega arith) (omega arith) _ c.lay_rest.ensures long
 
 pub returns-clause-drape_after : goal.returns-clause-drape_after
 returns-clause-drape_after c =
     let a = c.args in
-    let p = length_padded a.positions.now c.requires.positions_len in
-    let f = length_padded a.frames.now c.requires.frames_len in
-    let long : length (padded a.positions.now ++ (padded a.frames.now ++ (replicate vector_part plus_zero ++ padded a.positions.now))) ≡ drape_part = simp (length-append, p, f) in
+    let p = length_padded a.lists.positions.now a.lists.positions_fit in
+    let f = length_padded a.lists.frames.now a.lists.frames_fit in
+    let long : length (padded a.lists.positions.now ++ (padded a.lists.frames.now ++ (replicate vector_part plus_zero ++ padded a.lists.positions.now))) ≡ drape_part = simp (length-append, p, f) in
     put_over a.drape.now (drape_part * a.seat) drape_part _ _ (omega arith) (omega arith) _ c.lay_drape.ensures long
 
 pub returns-clause-pins_after : goal.returns-clause-pins_after

@@ -9,4 +9,4 @@ use Rattle.bench.proofs.strands.lay_drape.Goals as goal
 pub returns : goal.returns
 returns c =
     let e : length c.split_at_mut-velocities.result.0.now ≡ vector_part = omega arith in
-    rw (c.lay_rest.ensures, c.fill.ensures.after (λ y e. e), e, c.pad.ensures) (append_assoc (padded c.args.positions.now) (padded c.args.frames.now) (replicate vector_part plus_zero ++ padded c.args.positions.now))
+    rw (c.lay_rest.ensures, c.fill.ensures.after (λ y e. e), e, c.pad.ensures) (append_assoc (padded c.args.lists.positions.now) (padded c.args.lists.frames.now) (replicate vector_part plus_zero ++ padded c.args.lists.positions.now))
