@@ -7,7 +7,7 @@ use native.Mathlib.Nat.{pos_of_ne-zero, lt_of_not-le, zero-mul}
 use native.Mathlib.Decide.{dec_le}
 use native.Mathlib.Omega.{arith}
 use lib.Dec.{T, leb, eqb, ltb, eqb→eq, le→leb, nltb→le}
-use lib.Ieee.{Float, nan, inf, fin, binary64, odd, of_bits, of_fields, to_bits, fits, is_nan, lt, eq, div, up, down}
+use lib.Ieee.{Float, nan, inf, fin, binary64, odd, of_bits, of_fields, to_bits, fits, is_nan, lt, eq, up, down}
 use lib.Ieee.Fits.{and_l, up_pos}
 use lib.Ieee.Exact.{HasValue, odd_sign}
 use lib.Ieee.Bits.{is_true, of_bits-to_bits}
@@ -84,8 +84,8 @@ zeros (fin s (suc m) e) h = absurd (no (first (suc m * up e * 1) (0 * down e) _ 
     no : suc m * up e * 1 ≡ 0 * down e → ⊥
     no q = omega (arith, up_pos e)
 
-pub others : (x : Float) → lt (of_bits binary64 0) x ≡ false → eq x (of_bits binary64 0) ≡ false → div binary64 (of_bits binary64 0) (of_bits binary64 0) ≡ sqrt_of x
-unfolding of_bits lt eq div sqrt_of
+pub others : (x : Float) → lt (of_bits binary64 0) x ≡ false → eq x (of_bits binary64 0) ≡ false → of_bits binary64 0x7ff8_0000_0000_0000 ≡ sqrt_of x
+unfolding of_bits lt eq sqrt_of
 others nan h g = refl
 others (inf true) h g = refl
 others (inf false) h g = absurd (true≢false h)

@@ -3,7 +3,8 @@ ghost use Rattle.std.specs.Prelude.{◌≡◌, ℕ, ◌+◌, ◌*◌, ◌/◌, �
 ghost use Rattle.roots.specs.Steps.{NearestRoot, Partial, radicand};
 
 // The digit step: which binary digit comes next. It is 1 where what that digit adds to the square
-// can be taken from the remainder, which holds the radicand's next digits too.
+// can be taken from the remainder, which holds the radicand's next digits too. A number and no bool, as the
+// root is reckoned with it.
 fn digit(root: u64, rem: u64, unit: u64) -> u64
     requires { root + unit ≤ 2 ^ 55 }
     ensures { (rem < root + unit → result ≡ 0) × (root + unit ≤ rem → result ≡ 1) }
@@ -28,9 +29,9 @@ fn rounded(root: u64, rem: u64) -> u64
     if root < rem { root / 4 + 1 } else { root / 4 }
 }
 
-// The whole number nearest to the root of which root and rem are a part. The one call is the last
-// thing done, with its arguments chosen and not branched to, so that it compiles to a loop without
-// a branch on the digits.
+// The whole number nearest to the root of which root and rem are a part, by recursion, as document 01 has it.
+// The one call is the last thing done, with its arguments chosen and not branched to, so that it compiles to
+// a loop without a branch on the digits.
 pub fn nearest_root(root: u64, rem: u64, unit: u64, left: u64) -> u64
     requires { Partial root rem unit left }
     ensures { (n : ℕ) → radicand root rem unit ≡ 16 * n → NearestRoot n result }

@@ -68,5 +68,5 @@ pub fn sqrt(x: f64) -> f64
     if x == 0.0 {
         return x;
     }
-    0.0 / 0.0
+    f64::NAN
 }

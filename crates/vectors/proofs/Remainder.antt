@@ -16,7 +16,7 @@ use lib.Ieee.Back.{round_whole}
 use lib.Ieee.Scale.{round_same}
 use borrow.Author.Tests.{ltb-true, leb-true, leb-false}
 use Rattle.std.specs.Float.{float_is_finite}
-use Rattle.vectors.specs.Number.{plus_zero, ◌⊘◌}
+use Rattle.vectors.specs.Number.{◌⊘◌}
 use Rattle.vectors.specs.Finite.{is_finite}
 use Rattle.vectors.specs.Angle.{two_pi}
 use Rattle.vectors.proofs.Finiteness.{zero_rounded}
@@ -99,8 +99,8 @@ rem_within x f h = rw two_pi_is (of_form x f (rw two_pi_is at h))
     of_form (fin s m e) f h = rem_below s m e f (below_turn s m e h)
 
 -- ---- no finite number
-pub rem_other : (x : Float) → is_finite x ≡ false → plus_zero ⊘ plus_zero ≡ rem binary64 x two_pi
-unfolding float_is_finite rem div of_bits
+pub rem_other : (x : Float) → is_finite x ≡ false → of_bits binary64 0x7ff8_0000_0000_0000 ≡ rem binary64 x two_pi
+unfolding float_is_finite rem of_bits
 rem_other nan h = refl
 rem_other (inf s) h = refl
 rem_other (fin s m e) h = absurd (cc)

@@ -5,6 +5,7 @@ ghost use Rattle.std.specs.Float.Ieee.{lt, neg, rem};
 ghost use Rattle.vectors.specs.Angle.{two_pi, reduced_of, series_of, sine_of, cosine_of};
 ghost use Rattle.vectors.specs.Finite.{is_finite};
 
+// Both as document 01 writes them.
 const TWO_PI: f64 = 6.283185307179586;
 
 const PI: f64 = 3.141592653589793;
@@ -51,7 +52,7 @@ fn remainder(angle: f64) -> f64
         return angle;
     }
     if !angle.is_finite() {
-        return 0.0 / 0.0;
+        return f64::NAN;
     }
     let b = f64::to_bits(angle);
     let field = b % 0x8000_0000_0000_0000 / 0x10_0000_0000_0000;
