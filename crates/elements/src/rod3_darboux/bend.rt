@@ -13,7 +13,8 @@ use vectors::vec4::Vec4;
 use vectors::{mat3, mat4, sum, vec3, vec4};
 
 // What one vertex contributes: the gradients of the three components by its position, and by the
-// twist of the edge that begins there.
+// twist of the edge that begins there. Here and below fields and no arrays of three, as in the records of the
+// definitions, so that a contract names them and tells no length.
 #[derive(Clone, Copy)]
 pub struct BendNode {
     pub g0: Vec3,
