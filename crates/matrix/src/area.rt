@@ -6,30 +6,33 @@ ghost use Rattle.matrix.specs.Area.{place_positions, place_frames};
 
 use crate::vertices::MOST;
 
-pub const R: usize = 2464;
+// As many vertices have MOST rows of four numbers, and 5 * MOST - 6 blocks of sixteen.
+const ROWS: usize = 4 * MOST;
 
-pub const U: usize = 2592;
+// Three numbers for each of as many vertices as a strand may have.
+pub const VECTORS: usize = 3 * MOST;
 
-pub const P: usize = 2720;
+pub const R: usize = 16 * (5 * MOST - 6);
 
-pub const AP: usize = 2848;
+pub const U: usize = R + ROWS;
 
-pub const POSITIONS: usize = 2976;
+pub const P: usize = U + ROWS;
 
-pub const FRAMES: usize = 3072;
+pub const AP: usize = P + ROWS;
 
-pub const VELOCITIES: usize = 3168;
+pub const POSITIONS: usize = AP + ROWS;
+
+pub const FRAMES: usize = POSITIONS + VECTORS;
+
+pub const VELOCITIES: usize = FRAMES + VECTORS;
 
 // How many numbers it has in all.
-pub const NUMBERS: usize = 3264;
+pub const NUMBERS: usize = VELOCITIES + VECTORS;
 
 // One array with places and no struct of parts, as document 01 has it. It is handed on beside n and
 // not in a struct: the checker does not cover a `&mut` field that is lent again, and one that is read would
 // bring no length to tell.
 pub type Work = [f64; NUMBERS];
-
-// Three numbers for each of as many vertices as a strand may have.
-pub const VECTORS: usize = 3 * MOST;
 
 pub type Vectors = [f64; VECTORS];
 

@@ -10,9 +10,6 @@ use crate::area::Work;
 use crate::vertices::Vertices;
 use crate::{area, root_bound, slice_of_array, sparse_square};
 
-// 2^-52: a residual whose square is below it counts as 0.
-const EPSILON: f64 = 2.220446049250313e-16;
-
 // How a solve ended: the number of iterations, and the last residual's length over the first one's.
 #[derive(Clone, Copy)]
 pub struct Solve {
@@ -20,7 +17,8 @@ pub struct Solve {
     pub ratio: f64,
 }
 
-// Along the direction, as far as the residual falls. From the residual's square to its new one.
+// Along the direction, as far as the residual falls. From the residual's square to its new one. Here and
+// below `Kept`, of the area before and after, is a clause: no type says it.
 fn descend(work: &mut Work, n: Vertices, rho: f64) -> f64
     ensures vectors_after { solving_at n.count work.new result ≡ descended n.count (matrix_rows work.old n.count) (solving_at n.count work.old rho) }
     ensures kept { Kept n.count work.old work.new }
@@ -87,7 +85,8 @@ pub fn conjugate_gradient(work: &mut Work, n: Vertices, tolerance: f64, limit: u
     ensures kept { Kept n.count work.old work.new }
 {
     let rho = begin(work, n);
-    if rho < EPSILON {
+    // 2^-52: a residual whose square is below it counts as 0.
+    if rho < f64::EPSILON {
         return Solve {
             count: 0,
             ratio: 0.0,

@@ -41,33 +41,32 @@ fn bend_between(a: EdgeFrames, b: EdgeFrames, k: Vec3) -> Bend
     bend::wdwdwdw_darboux_rod_hair_approx_hessian(a.def, b.def, k, darboux0)
 }
 
-// One vertex i of the two from k on: its gradient, with 0 for the twist, and its blocks with both.
+// One end i of the edge: its gradient, with 0 for the twist, and its blocks with both ends.
 // Apart from `add_bend_row`, as the functions below are for stretch and bend: a loop over a run of vertices
 // or blocks would need its definition and an invariant.
-fn add_stretch_row(work: &mut Work, n: Vertices, i: usize, k: usize, g: Vec3, b0: Mat4, b1: Mat4)
-    requires k_bound { k + 1 < n.count }
-    requires k_le_i { (k ≤ i) × (i ≤ k + 1) }
-    ensures work_after { system_at n.count work.new ≡ plus_block n.count i (k + 1) b1 (plus_block n.count i k b0 (plus_gradient n.count i (vec4_from_vec3 g plus_zero) (system_at n.count work.old))) }
+fn add_stretch_row(work: &mut Work, e: Edge, i: usize, g: Vec3, b0: Mat4, b1: Mat4)
+    requires { (e.from ≤ i) × (i ≤ e.from + 1) }
+    ensures work_after { system_at e.n.count work.new ≡ plus_block e.n.count i (e.from + 1) b1 (plus_block e.n.count i e.from b0 (plus_gradient e.n.count i (vec4_from_vec3 g plus_zero) (system_at e.n.count work.old))) }
     ensures after_vectors_kept { after_vectors work.new ≡ after_vectors work.old }
 {
-    system::add_gradient(work, n, i, vec4::from_vec3(g, 0.0));
-    system::add_block(work, n, i, k, b0);
-    system::add_block(work, n, i, k + 1, b1);
+    system::add_gradient(work, e.n, i, vec4::from_vec3(g, 0.0));
+    system::add_block(work, e.n, i, e.from, b0);
+    system::add_block(work, e.n, i, e.from + 1, b1);
 }
 
-// The element's gradients and blocks at the two vertices from k on.
-fn add_stretch(work: &mut Work, n: Vertices, k: usize, e: Stretch)
-    requires k_bound { k + 1 < n.count }
-    ensures work_after { system_at n.count work.new ≡ plus_element n.count (stretch_element k e) (system_at n.count work.old) }
+// The element's gradients and blocks at the two ends of its edge.
+fn add_stretch(work: &mut Work, e: Edge, s: Stretch)
+    ensures work_after { system_at e.n.count work.new ≡ plus_element e.n.count (stretch_element e.from s) (system_at e.n.count work.old) }
     ensures after_vectors_kept { after_vectors work.new ≡ after_vectors work.old }
 {
-    let same = mat4::from_mat3_adding_w(e.same, 0.0);
-    let other = mat4::from_mat3_adding_w(e.other, 0.0);
-    add_stretch_row(work, n, k, k, e.dw0, same, other);
-    add_stretch_row(work, n, k + 1, k, e.dw1, other, same);
+    let same = mat4::from_mat3_adding_w(s.same, 0.0);
+    let other = mat4::from_mat3_adding_w(s.other, 0.0);
+    add_stretch_row(work, e, e.from, s.dw0, same, other);
+    add_stretch_row(work, e, e.from + 1, s.dw1, other, same);
 }
 
-// One vertex i of the three from k on: its gradient, and its blocks with each of them.
+// One vertex i of the three from k on: its gradient, and its blocks with each of them. k and its bound stand
+// here and once below: a type for three vertices would be made for this element.
 fn add_bend_row(work: &mut Work, n: Vertices, i: usize, k: usize, g: Vec4, row: BendRow)
     requires k_bound { k + 2 < n.count }
     requires k_le_i { (k ≤ i) × (i ≤ k + 2) }
@@ -102,9 +101,10 @@ fn add_stretches(work: &mut Work, n: Vertices, ini: &Lengths, def: &Lengths, k: 
 {
     let mut sum = w;
     for i in 0..n.count - 1 {
-        let e = stretch_at(work, Edge { n, from: i }, k, ini[i], def[i]);
-        sum += e.w;
-        add_stretch(work, n, i, e);
+        let e = Edge { n, from: i };
+        let s = stretch_at(work, e, k, ini[i], def[i]);
+        sum += s.w;
+        add_stretch(work, e, s);
     }
     sum
 }
@@ -163,7 +163,8 @@ pub fn wdwddw_hair_system(
         framex: axes,
     };
     clear(work, n);
-    // Two arrays: each is what one function makes of one shape.
+    // Two arrays, each of what one function makes of one shape, and clauses that they are so: the staged lists
+    // are lent anew for every edge, as the system before them is written, so no struct can hold both.
     let ini = edges::edge_lengths(shape);
     let def = edges::edge_lengths(edges::staged(work, n));
     let w = add_stretches(work, n, &ini, &def, stretch, 0.0);

@@ -49,7 +49,7 @@ fn row_unless_fixed(pins: Pins<'_>, i: usize, v: Vec4) -> Vec4
     }
 }
 
-// The vector at `to` gets 0 where the pins of its n vertices pin.
+// The vector at `to` gets 0 where the pins of its n vertices pin. It is of any vector, as the Rust's is.
 fn set_fix_dof_to_rhs_vector(work: &mut Work, to: usize, pins: Pins<'_>)
     requires { to + 4 * pins.n.count ≤ length work.old }
     ensures { work.new ≡ put work.old to (flat4 (set_fix_dof_to_rhs_vector pins.entry.n.count pins.entry.bytes.now (rows4 work.old to pins.entry.n.count))) }

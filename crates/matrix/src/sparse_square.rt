@@ -85,8 +85,8 @@ fn row_times(work: &Work, n: Vertices, i: usize, at: usize, p: usize, ap: usize)
     row_product(row, x, n, i, Vec4::load(work, ap + 4 * i))
 }
 
-// The matrix times the vector at p, stored at ap. The place of a row is carried along: to work it out takes
-// a product for each row.
+// The matrix times the vector at p, stored at ap: places, since it is of any two vectors, as the Rust's is.
+// The place of a row is carried along: to work it out takes a product for each row.
 #[tactic(auto, using(crate::proofs::RowPlaces::row_fits))]
 pub fn mult_vec(work: &mut Work, n: Vertices, p: usize, ap: usize)
     requires matrix_numbers_le_ap { matrix_numbers ≤ ap }

@@ -24,9 +24,9 @@ impl Vertices {
     }
 }
 
-// The edge of a strand from one vertex to the next. In layout, system,
-// pins and sparse_square the index of one vertex, or of two that are near, has its bound in a clause: a type
-// for it would be made for one call.
+// The edge of a strand from one vertex to the next. In layout, system, loads, pins and sparse_square, and in
+// bench, the index of one vertex, or of two that are near, has its bound in a clause: a type for it would be
+// made for one call.
 #[derive(Clone, Copy)]
 pub struct Edge {
     pub n: Vertices,

@@ -13,8 +13,8 @@ use Rattle.matrix.proofs.hair_system.add_stretches.Goals as goal
 pub loop-i-init : goal.loop-i-init
 loop-i-init c = gathered_none _ _ _ _ c.told-work
 
-pub stretch_at-e-requires : goal.stretch_at-e-requires
-stretch_at-e-requires c =
+pub stretch_at-s-requires : goal.stretch_at-s-requires
+stretch_at-s-requires c =
     let a = c.args in
     let l = c.loop-i in
     length_in (a.n.count - 1) _ l.i c.requires.def_value (rows3_kept a.work.now l.work l.invariant.after place_positions a.n.count (omega arith)) (omega arith) (omega arith)
@@ -26,4 +26,4 @@ loop-i-preserved c =
     let l = c.loop-i in
     let g = l.invariant in
     let same = ap (λ (x : List Vec3). stretch_by x a.k l.i (get_or a.ini.now l.i nan)) (rows3_kept a.work.now l.work g.after place_positions a.n.count (omega arith)) in
-    gathered_more (stretch_element l.i c.stretch_at-e.result) g (ap (stretch_element l.i) (c.stretch_at-e.ensures ∙ same)) c.add_stretch.ensures.work_after c.add_stretch.ensures.after_vectors_kept (search rules)
+    gathered_more (stretch_element l.i c.stretch_at-s.result) g (ap (stretch_element l.i) (c.stretch_at-s.ensures ∙ same)) c.add_stretch.ensures.work_after c.add_stretch.ensures.after_vectors_kept (search rules)
