@@ -86,10 +86,9 @@ fn edge_fits(positions: &[f64], i: usize) -> bool
 
 // Whether every edge between the n vertices has.
 #[tactic(auto, unfolding(matrix::specs::System::every, matrix::specs::Parts::table, crate::specs::Given::edges_fit))]
-pub(crate) fn edges_fit(positions: &[f64], n: usize) -> bool
-    requires n_above_0 { 1 ≤ n }
-    requires positions_long { 3 * n ≤ length positions.now }
-    ensures { result ≡ edges_fit n (rows3 positions.now 0 n) }
+pub(crate) fn edges_fit(positions: &[f64], n: Vertices) -> bool
+    requires { 3 * n.count ≤ length positions.now }
+    ensures { result ≡ edges_fit n.count (rows3 positions.now 0 n.count) }
 {
-    (0..n - 1).all(|i| edge_fits(positions, i))
+    (0..n.count - 1).all(|i| edge_fits(positions, i))
 }

@@ -3,7 +3,7 @@ ghost use Rattle.std.specs.Prelude.{◌≡◌, ◌&&◌, ◌*◌, eqb, IfOk};
 ghost use Rattle.vectors.specs.Finite.{is_finite};
 ghost use Rattle.matrix.specs.System.{every};
 ghost use Rattle.bench.specs.Strand.{bench_of};
-ghost use Rattle.bench.specs.Given.{good_count, good_settings};
+ghost use Rattle.bench.specs.Given.{good_settings};
 ghost use Rattle.bench.specs.Answers.{said};
 ghost use Rattle.bench.specs.Refusals.{told, record_after};
 ghost use Rattle.bench.specs.Asks.{load_of, load, call};
@@ -13,12 +13,13 @@ use crate::refusal::Refusal;
 use crate::seats::{Record, Settings};
 use crate::strands::Lists;
 use crate::{areas, entry, given, seats, strands};
+use matrix::vertices::Vertices;
 
-// Whether n is a strand's number of vertices and both lists have three numbers for each.
-fn lists_fit(n: usize, positions: usize, frames: usize) -> bool
-    ensures { result ≡ (good_count n && eqb positions (3 * n) && eqb frames (3 * n)) }
+// Whether both lists have three numbers for each vertex.
+fn lists_fit(n: Vertices, positions: usize, frames: usize) -> bool
+    ensures { result ≡ (eqb positions (3 * n.count) && eqb frames (3 * n.count)) }
 {
-    given::good_count(n) && (positions == 3 * n) & (frames == 3 * n)
+    (positions == 3 * n.count) & (frames == 3 * n.count)
 }
 
 // Whether all that is given is finite, and no setting below 0.
@@ -48,6 +49,7 @@ fn asked<'a>(
 {
     let long = areas::are_whole(rest, drape, pins);
     entry::vacant(&seats, long, seat)?;
+    let n = Vertices::new(n).ok_or(Refusal::Lists)?;
     if !lists_fit(n, positions.len(), frames.len()) {
         return Err(Refusal::Lists);
     }

@@ -24,7 +24,7 @@ use vectors::vec3::Vec3;
 fn staged_edges_fit(work: &Work, n: Vertices) -> bool
     ensures { result ≡ edges_fit n.count (staged_shape n.count work.now).positions }
 {
-    given::edges_fit(&work[area::POSITIONS..area::FRAMES], n.count)
+    given::edges_fit(&work[area::POSITIONS..area::FRAMES], n)
 }
 
 // The picked vertex is pulled to its goal.
