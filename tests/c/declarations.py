@@ -9,9 +9,14 @@ Exit status: 0 where they agree."""
 import os, re, sys
 
 ROOT = os.path.dirname(os.path.dirname(os.path.dirname(os.path.abspath(__file__))))
-SOURCES = ('crates/bench_c/src/lib.rt', 'crates/bench/src/seats.rt')
+SOURCES = ('crates/bench_c/src/lib.rt', 'crates/bench/src/seats.rt', 'crates/bench/src/areas.rt')
 HEADER, RUST = 'host/include/hairbench.h', 'host/include/hairbench.rs'
 NUMBERS = {'f64': 'double', 'u8': 'uint8_t', 'usize': 'size_t'}
+
+
+def numbered(text):
+    """The source with the number of seats in place of its name, which no declaration has."""
+    return text.replace('areas::SEATS', re.search(r'^pub const SEATS: usize = (\d+);', text, re.M)[1])
 
 
 def functions(text):
@@ -106,7 +111,7 @@ def main(folder):
     def read(path):
         with open(os.path.join(folder, path), encoding='utf-8') as f:
             return f.read()
-    source = ''.join(read(s) for s in SOURCES)
+    source = numbered(''.join(read(s) for s in SOURCES))
     same = [agree(HEADER, c_wanted(source), c_found(read(HEADER))), agree(RUST, rust_wanted(source), rust_found(read(RUST)))]
     return 0 if all(same) else 1
 

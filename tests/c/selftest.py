@@ -6,7 +6,7 @@ sys.dont_write_bytecode = True
 import declarations
 from declarations import HEADER, ROOT, RUST, SOURCES
 
-EXPORTED, SEATS = SOURCES
+EXPORTED, SEATS, AREAS = SOURCES
 ALTERED = (
     # fields or parameters in another order
     (HEADER, '    double energy;\n    size_t count;\n', '    size_t count;\n    double energy;\n'),
@@ -14,11 +14,13 @@ ALTERED = (
     (RUST, '    pub energy: f64,\n    pub count: usize,\n', '    pub count: usize,\n    pub energy: f64,\n'),
     (RUST, '        seat: usize,\n        kind: usize,\n', '        kind: usize,\n        seat: usize,\n'),
     (SEATS, '    pub stiff_length: f64,\n    pub stiff_bendtwist0: f64,\n', '    pub stiff_bendtwist0: f64,\n    pub stiff_length: f64,\n'),
-    # another type or layout
+    # another type, length or layout
     (HEADER, '    uint8_t refusal;\n', '    size_t refusal;\n'),
     (HEADER, 'const double *positions', 'double *positions'),
     (RUST, 'work: *mut f64', 'work: *const f64'),
     (RUST, ') -> Place;', ') -> Report;'),
+    (RUST, 'counts: [usize; 6]', 'counts: [usize; 7]'),
+    (AREAS, 'SEATS: usize = 6', 'SEATS: usize = 7'),
     (RUST, '#[repr(C)]\n', ''),
     (EXPORTED, '#[repr(C)]\n', ''),
     (SEATS, '#[repr(C)]\n', ''),

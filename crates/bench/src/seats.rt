@@ -22,8 +22,8 @@ pub struct Settings {
 #[repr(C)]
 #[derive(Clone, Copy)]
 pub struct Record {
-    pub counts: [usize; 6],
-    pub settings: [Settings; 6],
+    pub counts: [usize; areas::SEATS],
+    pub settings: [Settings; areas::SEATS],
 }
 
 // The record of a new bench: all zero.
