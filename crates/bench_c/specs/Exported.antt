@@ -3,6 +3,7 @@ use Rattle.std.specs.Prelude.{cond, List, ℕ, zero, suc, ◌*◌, ltb, get_or, 
 use Rattle.vectors.specs.declared.vec3.Vec3.{Vec3}
 use Rattle.bench.specs.declared.answers.Pick.{Pick}
 use Rattle.bench.specs.declared.answers.Pick.TheVariants.{Nothing, At}
+use Rattle.bench.specs.declared.look.Place as shown
 use Rattle.bench.specs.Strand.{Bench}
 use Rattle.bench.specs.Answers.{Answer, numbers_told}
 use Rattle.bench.specs.Asks.{look, call}
@@ -23,6 +24,10 @@ report_of a = let n = numbers_told a in record { number = n.number; energy = n.e
 -- "that part of the rest area or of the drape area itself": the area that a kind chooses.
 abbrev pub looked_at : ℕ → List Float → List Float → List Float
 looked_at kind rest drape = cond (ltb kind 2) rest drape
+
+-- The place of a look, without the area, which its kind chooses.
+abbrev pub placed : shown.Place → Place
+placed p = record { at = p.at; count = p.count }
 
 -- "3n numbers, or an empty part when refused"; k is what the look is refused with
 abbrev pub place_by : ℕ → ℕ → ℕ → ℕ → Place

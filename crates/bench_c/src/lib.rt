@@ -12,7 +12,7 @@ ghost use Rattle.bench.specs.Answers.{said, handed, reported};
 ghost use Rattle.bench.specs.Step.{still, over};
 ghost use Rattle.bench.specs.Asks.{load_of, load, unload, pin, look, companion, step, call_with, call};
 ghost use Rattle.bench.specs.Calls.{number_of, answer_of, after_of};
-ghost use Rattle.bench_c.specs.Exported.{pick_of, report_of, looked_at, place_of};
+ghost use Rattle.bench_c.specs.Exported.{pick_of, report_of, looked_at, placed, place_of};
 
 use bench::answers::{Pick, StepAnswer};
 use bench::refusal::Refusal;
@@ -93,6 +93,18 @@ impl From<StepAnswer> for Report {
                 count: 0,
                 ratio: 0.0,
             },
+        }
+    }
+}
+
+// The area is not told: C knows it by the kind.
+impl From<look::Place> for Place {
+    ghost from_gives = { λ p q. q ≡ placed p };
+
+    fn from(p: look::Place) -> Place {
+        Place {
+            at: p.at,
+            count: p.count,
         }
     }
 }
@@ -179,13 +191,7 @@ pub extern "C" fn hairbench_look(
     ensures place { (pins : List ℕ) → result ≡ place_of seat kind (bench_of «record» rest.now drape.now pins) }
     ensures part { (pins : List ℕ) → handed (part (looked_at kind rest.now drape.now) result.at result.count) ≡ answer_of (call seat (look kind)) (bench_of «record» rest.now drape.now pins) }
 {
-    let Ok(p) = look::place_of(record, rest, drape, seat, kind) else {
-        return Place::default();
-    };
-    Place {
-        at: p.at,
-        count: p.count,
-    }
+    look::place_of(record, rest, drape, seat, kind).map_or(Place::default(), Place::from)
 }
 
 // The root of x.
