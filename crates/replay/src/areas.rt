@@ -43,20 +43,18 @@ impl Areas {
             .or_else(|| self.in_work(free, stale))
     }
 
-    // Seat by seat, the count before the settings.
+    // Seat by seat, the count before the settings. By the seat's number, which is told of the place.
     fn in_record(&self, expected: &Expected) -> Option<Difference> {
         let settings = expected.settings();
-        for seat in 0..SEATS {
+        (0..SEATS).find_map(|seat| {
             if !self.record.counts[seat].is(expected.counts[seat]) {
                 return Some(Difference::Place(Area::Counts, seat));
             }
             let numbers = settings::numbers(&self.record.settings[seat]);
-            if let Some(i) = first_other(&numbers, &settings[seat]) {
-                let place = settings::NUMBERS * seat + i;
-                return Some(Difference::Place(Area::Settings, place));
-            }
-        }
-        None
+            let i = first_other(&numbers, &settings[seat])?;
+            let place = settings::NUMBERS * seat + i;
+            Some(Difference::Place(Area::Settings, place))
+        })
     }
 
     fn in_work(&self, free: usize, stale: &[u64; WORK]) -> Option<Difference> {
