@@ -34,6 +34,7 @@ pub(crate) const VELOCITIES: usize = 2 * VECTOR_PART;
 
 pub(crate) const WORKING_COPY: usize = 3 * VECTOR_PART;
 
+// One array each, with the places above, and no struct of vectors: document 01 has flat parts.
 pub type RestPart = [f64; REST_PART];
 
 pub type DrapePart = [f64; DRAPE_PART];

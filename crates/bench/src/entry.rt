@@ -1,6 +1,7 @@
 // What every call on a seat is asked first: whether the areas that it is lent and the record are good,
 // whether there is such a seat, and whether it is taken. `long` is whether the areas have their lengths, a
-// bool, since each call is lent others.
+// bool, since each call is lent others. The record, it and the seat are three arguments: a struct of them would
+// be made for one line of each call.
 ghost use Rattle.std.specs.Prelude.{◌≡◌, [], ◌∷◌, ◌++◌, get_or, IfOk};
 ghost use Rattle.bench.specs.Rows.{first};
 ghost use Rattle.bench.specs.Refusals.{told};

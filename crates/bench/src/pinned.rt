@@ -8,7 +8,9 @@ use vectors::vec3::Vec3;
 
 // The old numbers of vertex i where their bytes pin, else the new ones. Apart from matrix's
 // `row_unless_fixed`, which has four entries and sets 0. The bound of i is a clause here and at three more:
-// a type for it would be made for one call.
+// a type for it would be made for one call. The four bytes of a vertex are read at their place in the flat list,
+// as the definitions and document 01 have them: as a `[u8; 4]` they would bring the law of chunks into the
+// proof of each function that reads one, for one index less.
 #[tactic(auto, unfolding(crate::specs::Update::vec3_unless_pinned))]
 pub(crate) fn vec3_unless_pinned(pins: &PinPart, i: usize, old: Vec3, new: Vec3) -> Vec3
     requires { i < 32 }

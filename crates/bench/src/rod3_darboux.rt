@@ -78,7 +78,9 @@ fn turn_edge(work: &mut Work, pins: &PinPart, e: Edge) -> bool
     !(t.one_plus_cosine < LEAST_TURN)
 }
 
-// Every frame whose twist is not pinned turns; the answer is whether 10 declines none.
+// Every frame whose twist is not pinned turns; the answer is whether 10 declines none. A bool, here and at
+// its caller, and no Result: a frame turns also behind one that 10 declines, the definitions are Bool, and
+// finish names the reason.
 fn turn_frames(work: &mut Work, pins: &PinPart, n: Vertices) -> bool
     ensures value { result ≡ turns_fit n.count pins.now (staged_shape n.count work.old) (rows4 work.old place_u n.count) }
     ensures work_after { work.new ≡ put work.old place_frames (flat3 (turned_frames n.count pins.now (staged_shape n.count work.old) (rows4 work.old place_u n.count))) }

@@ -42,8 +42,8 @@ fn on_parts<K: Kind>(
     step::update(kind, rest, part, pins, work, p, g)
 }
 
-// A step of the seat's strand, which has the settings g. `seat < seats` is a clause here and in seats and
-// strands: a type for a seat would take a clause more at each of six functions that hand it on.
+// A step of the seat's strand, which has the settings g. `seat < seats` is a clause here and in seats,
+// strands and look: a type for a seat would take a clause more at each of six functions that hand it on.
 fn on_seat<K: Kind>(
     kind: K,
     rest: &[f64],

@@ -36,7 +36,9 @@ pub(crate) struct Lists<'a> {
     ghost frames_fit: { length frames.now ≤ vector_part },
 }
 
-// The list, and zeros up to the numbers of 32 vertices.
+// The list, and zeros up to the numbers of 32 vertices. Here and in the two that follow a part is a slice with
+// its length as a clause, since halves and ranges of lists are handed over: each would become an array by a
+// match, as in steps.
 fn pad(area: &mut [f64], list: &[f64])
     requires area_len { length area.old ≡ vector_part }
     requires list_len { length list.now ≤ vector_part }

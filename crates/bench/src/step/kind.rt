@@ -21,13 +21,14 @@ pub(crate) trait Kind: Copy {
     fn stage(self, work: &mut Work, drape: &DrapePart, pins: &PinPart, n: Vertices)
         ensures { staged_shape n.count work.new ≡ shape_by (time self) n.count pins.now drape.now };
 
-    // Its inertia, if it has any, is added to the system.
+    // Its inertia, if it has any, is added to the system. What stands behind the vectors is kept: a clause, here
+    // and in begin and solve, as it is said of the area before and after, which no type does.
     fn add_inertia(self, work: &mut Work, n: Vertices)
         ensures work_after { system_at n.count work.new ≡ timed (time self) n.count (system_at n.count work.old) }
         ensures after_vectors_kept { after_vectors work.new ≡ after_vectors work.old };
 
     // Its velocities, if it changes them, are staged; the answer is whether 11 does not decline what the
-    // step would leave.
+    // step would leave. A bool, as the definition is; finish names the reason.
     fn stage_end(self, work: &mut Work, drape: &DrapePart, pins: &PinPart, n: Vertices) -> bool
         ensures value { result ≡ drape_is_finite n.count (drape_after (time self) n.count pins.now drape.now (staged_shape n.count work.old)) }
         ensures shape_kept { staged_shape n.count work.new ≡ staged_shape n.count work.old }
