@@ -1,4 +1,5 @@
-// How the examples write what comes out.
+// How the examples write what comes out. `rt` and `what`, here and in the other files, are where a line goes and
+// its first words: two arguments, as a struct of them would be made anew for each line.
 use bench::refusal;
 use bench::refusal::Refusal;
 use std::{fmt, io};

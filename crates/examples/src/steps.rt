@@ -68,7 +68,8 @@ fn show_seats(rt: &impl Print) -> io::Result<()> {
     show_lengths(rt)
 }
 
-// Steps with too little of an area.
+// Steps with too little of an area. Length by length: a literal with `..` of what has ghost fields is not
+// supported.
 fn show_lengths(rt: &impl Print) -> io::Result<()> {
     let mut bench = run::laid(RATIO, 0);
     bench.lent.work = WORK - 1;

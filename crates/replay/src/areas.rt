@@ -7,6 +7,7 @@ use crate::stored::{Stored, first_other};
 use bench::areas::SEATS;
 use bench::seats::Record;
 
+// examples has the like of it, but no library is of both programs.
 #[derive(Drop)]
 pub struct Areas {
     pub record: Record,
