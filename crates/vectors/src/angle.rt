@@ -5,6 +5,8 @@ ghost use Rattle.std.specs.Float.Ieee.{lt, neg, rem};
 ghost use Rattle.vectors.specs.Angle.{two_pi, reduced_of, series_of, sine_of, cosine_of};
 ghost use Rattle.vectors.specs.Finite.{is_finite};
 
+use crate::finite::Finite;
+
 // Both as document 01 writes them.
 const TWO_PI: f64 = 6.283185307179586;
 
@@ -51,7 +53,7 @@ fn remainder(angle: f64) -> f64
     if is_within_turn(angle) {
         return angle;
     }
-    if !angle.is_finite() {
+    if !Finite::is_finite(angle) {
         return f64::NAN;
     }
     let b = f64::to_bits(angle);

@@ -2,6 +2,7 @@
 ghost use Rattle.std.specs.Prelude.{◌≡◌};
 ghost use Rattle.vectors.specs.Edge.{acceptable, measured_of, edge_length};
 
+use crate::finite::Finite;
 use crate::vec3;
 use crate::vec3::Vec3;
 
@@ -18,7 +19,7 @@ pub struct EdgeLength {
 fn accepts(squared: f64) -> bool
     ensures { result ≡ acceptable squared }
 {
-    squared.is_finite() & (0.0 < squared)
+    Finite::is_finite(squared) & (0.0 < squared)
 }
 
 // The length of the edge v.

@@ -17,8 +17,10 @@ pub trait Finite: Copy {
 impl Finite for f64 {
     ghost finite = { is_finite };
 
+    // A finite number less itself is +0; an infinity less itself is NaN. Called as `Finite::is_finite(x)`, since
+    // `x.is_finite()` is the library's test of an f64.
     fn is_finite(self) -> bool {
-        f64::is_finite(self)
+        self - self == 0.0
     }
 }
 
@@ -27,7 +29,7 @@ impl Finite for Vec3 {
 
     #[tactic(auto, unfolding(crate::specs::Finite::vec3_is_finite))]
     fn is_finite(self) -> bool {
-        self.x.is_finite() & self.y.is_finite() & self.z.is_finite()
+        Finite::is_finite(self.x) & Finite::is_finite(self.y) & Finite::is_finite(self.z)
     }
 }
 
@@ -36,7 +38,10 @@ impl Finite for Vec4 {
 
     #[tactic(auto, unfolding(crate::specs::Finite::vec4_is_finite))]
     fn is_finite(self) -> bool {
-        self.x.is_finite() & self.y.is_finite() & self.z.is_finite() & self.w.is_finite()
+        Finite::is_finite(self.x)
+            & Finite::is_finite(self.y)
+            & Finite::is_finite(self.z)
+            & Finite::is_finite(self.w)
     }
 }
 

@@ -8,6 +8,6 @@ pub mod finite;
 pub mod mat3;
 pub mod mat4;
 pub mod rotation;
-pub mod sum;
+mod sum;
 pub mod vec3;
 pub mod vec4;

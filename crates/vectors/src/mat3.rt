@@ -1,7 +1,8 @@
 // Blocks of three by three numbers, held by rows: entry A[i][j] is row i, column j.
 ghost use Rattle.std.specs.Prelude.{◌≡◌};
-ghost use Rattle.vectors.specs.Mat3.{mat3_add, mat3_scale, mat3_identity, mat3_diagonal, mat3_scaled_outer_product, mat3_projection};
+ghost use Rattle.vectors.specs.Mat3.{mat3_add, mat3_add_three, mat3_scale, mat3_identity, mat3_diagonal, mat3_scaled_outer_product, mat3_projection};
 
+use crate::sum;
 use crate::vec3::Vec3;
 use std::ops::{Add, Mul};
 
@@ -40,6 +41,13 @@ impl Mul<f64> for Mat3 {
             r2: self.r2 * s,
         }
     }
+}
+
+#[tactic(auto, unfolding(crate::specs::Mat3::mat3_add_three))]
+pub fn add_three(a: Mat3, b: Mat3, c: Mat3) -> Mat3
+    ensures { result ≡ mat3_add_three a b c }
+{
+    sum::add_three(a, b, c)
 }
 
 // No `From`: two of the from_* make a block of one vector, and the others take more values or none.

@@ -1,6 +1,6 @@
 // Vectors of three numbers.
 ghost use Rattle.std.specs.Prelude.{◌≡◌};
-ghost use Rattle.vectors.specs.Vec3.{vec3_add, vec3_sub, vec3_scale, vec3_dot, vec3_norm, vec3_normalize, vec3_cross, vec3_orthogonalize};
+ghost use Rattle.vectors.specs.Vec3.{vec3_add, vec3_sub, vec3_scale, vec3_add_three, vec3_dot, vec3_norm, vec3_normalize, vec3_cross, vec3_orthogonalize};
 ghost use Rattle.vectors.specs.Mat3.{vec3_times_mat3};
 
 use crate::mat3::Mat3;
@@ -59,6 +59,13 @@ impl Mul<f64> for Vec3 {
     }
 }
 
+#[tactic(auto, unfolding(crate::specs::Vec3::vec3_add_three))]
+pub fn add_three(a: Vec3, b: Vec3, c: Vec3) -> Vec3
+    ensures { result ≡ vec3_add_three a b c }
+{
+    sum::add_three(a, b, c)
+}
+
 // No trait with `vec4::dot`: document 01 sums that one from +0, and this one from its first product.
 #[tactic(auto, unfolding(crate::specs::Vec3::vec3_dot))]
 pub fn dot(a: Vec3, b: Vec3) -> f64
@@ -102,9 +109,9 @@ pub fn orthogonalize(v: Vec3, f: Vec3) -> Vec3
 }
 
 // The row vector q times the block a.
-#[tactic(auto, unfolding(crate::specs::Mat3::vec3_times_mat3, crate::specs::Vec3::vec3_add_three))]
+#[tactic(auto, unfolding(crate::specs::Mat3::vec3_times_mat3))]
 pub fn mult_mat3_array_of_array(q: Vec3, a: Mat3) -> Vec3
     ensures { result ≡ vec3_times_mat3 q a }
 {
-    sum::add_three(a.r0 * q.x, a.r1 * q.y, a.r2 * q.z)
+    add_three(a.r0 * q.x, a.r1 * q.y, a.r2 * q.z)
 }

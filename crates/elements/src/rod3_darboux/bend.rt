@@ -10,7 +10,7 @@ use vectors::mat3::Mat3;
 use vectors::mat4::Mat4;
 use vectors::vec3::Vec3;
 use vectors::vec4::Vec4;
-use vectors::{mat3, mat4, sum, vec3, vec4};
+use vectors::{mat3, mat4, vec3, vec4};
 
 // What one vertex contributes: the gradients of the three components by its position, and by the
 // twist of the edge that begins there. Here and below fields and no arrays of three, as in the records of the
@@ -64,11 +64,11 @@ fn entrywise(a: Vec3, b: Vec3) -> Vec3
 
 // The three gradients of n, each times an entry of s. They are fields of their own and no block, of which
 // `vec3::mult_mat3_array_of_array` has the like.
-#[tactic(auto, unfolding(crate::specs::Bend::weighted_sum, vectors::specs::Vec3::vec3_add_three))]
+#[tactic(auto, unfolding(crate::specs::Bend::weighted_sum))]
 fn weighted_sum(n: BendNode, s: Vec3) -> Vec3
     ensures { result ≡ weighted_sum n s }
 {
-    sum::add_three(n.g0 * s.x, n.g1 * s.y, n.g2 * s.z)
+    vec3::add_three(n.g0 * s.x, n.g1 * s.y, n.g2 * s.z)
 }
 
 // One function told the fields by closures was tried: the proof above it did not close, since a closure
@@ -127,11 +127,11 @@ fn bend_gradient(n: BendNode, kr: Vec3) -> Vec4
 }
 
 // The products of the position gradients of two vertices.
-#[tactic(auto, unfolding(crate::specs::Bend::block_sum, vectors::specs::Mat3::mat3_add_three))]
+#[tactic(auto, unfolding(crate::specs::Bend::block_sum))]
 fn block_sum(k: Vec3, a: BendNode, b: BendNode) -> Mat3
     ensures { result ≡ block_sum k a b }
 {
-    sum::add_three(
+    mat3::add_three(
         mat3::from_scaled_outer_product(k.x, a.g0, b.g0),
         mat3::from_scaled_outer_product(k.y, a.g1, b.g1),
         mat3::from_scaled_outer_product(k.z, a.g2, b.g2),
