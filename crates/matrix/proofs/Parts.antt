@@ -5,7 +5,7 @@ use mathlib.Core.List.{List, [], ◌∷◌, ◌++◌, append_assoc}
 use Prim.Native.Nat.{ℕ, zero, suc, ◌+◌, ◌≤◌, ◌<◌, suc-le-suc}
 use native.Mathlib.Nat.{not-suc-le-zero, le_of_suc-le-suc}
 use native.Mathlib.Omega.{arith}
-use lib.ListN.{length, get_or, set, length-take, length-drop, take, drop}
+use lib.ListN.{length, get_or, set, replicate, length-take, length-drop, take, drop}
 use lib.Seq.{paste, get_or-take, get_or-drop, ext_get_or}
 use Rattle.matrix.specs.Parts.{Apart, part, put, table}
 
@@ -120,6 +120,12 @@ module _ {ℓ} {A : Type ℓ} where
   unfolding part
   get_or_part w o n i d h = get_or-take n (drop o w) i d h ∙ get_or-drop o w i d
 
+  pub part_table : (d : A) (n : ℕ) (f : ℕ → A) (o m : ℕ) → o + m ≤ n → part (table n f) o m ≡ table m (λ i. f (o + i))
+  part_table d n f o m h =
+      let long : length (part (table n f) o m) ≡ m = length_part (table n f) o m (omega (arith, length_table n f)) in
+      ext_get_or d (part (table n f) o m) (table m (λ i. f (o + i))) (long ∙ sym (length_table m _))
+      (λ i b. let c : i < m = omega arith in get_or_part (table n f) o m i d c ∙ get_or_table n f (o + i) d (omega arith) ∙ sym (get_or_table m (λ k. f (o + k)) i d c))
+
   -- ---- parts after a store: the one that was stored, and one apart from it
   pub part_put_same : (d : A) (w : List A) (o n : ℕ) (p : List A) → length p ≡ n → o + n ≤ length w → part (put w o p) o n ≡ p
   part_put_same d w o n p e h =
@@ -173,3 +179,8 @@ module _ {ℓ} {A : Type ℓ} where
   unfolding table
   table_of d [] = refl
   table_of d (a ∷ l) = ap (λ (k : List A). a ∷ k) (table_of d l)
+
+  pub table_same : (n : ℕ) (a : A) → table n (λ _. a) ≡ replicate n a
+  unfolding table
+  table_same zero a = refl
+  table_same (suc n) a = ap (λ (l : List A). a ∷ l) (table_same n a)

@@ -81,9 +81,12 @@ module _ {A : Type 0} {t : Width A} where
   pub number_unstored : {w v : List Float} {o : ℕ} {f : ℕ → A} {i : ℕ} → StoredAs t w v o f i → (j : ℕ) → (o ≤ j → j < o + t.wide * i → ⊥) → get_or v j nan ≡ get_or w j nan
   number_unstored {w} {v} {o} {f} {i} s j h = rw s.is (get_or_outside w o (t.flat (table i f)) j nan (λ l m. h l (omega (arith, length_flat_table t i f))))
 
-  -- a row apart from them
+  -- a row apart from them, of another width and of theirs
+  pub unstored_as : {B : Type 0} (s : Width B) {w v : List Float} {o : ℕ} {f : ℕ → A} {i : ℕ} → StoredAs t w v o f i → (k : ℕ) → ((j : ℕ) → k ≤ j → j < k + s.wide → o ≤ j → j < o + t.wide * i → ⊥) → s.row v k ≡ s.row w k
+  unstored_as s {w} {v} p k h = s.row_same v w k k (λ a b x y e. let d : b ≡ a = omega arith in rw d (number_unstored p a (h a x y)))
+
   pub unstored : {w v : List Float} {o : ℕ} {f : ℕ → A} {i : ℕ} → StoredAs t w v o f i → (k : ℕ) → ((j : ℕ) → k ≤ j → j < k + t.wide → o ≤ j → j < o + t.wide * i → ⊥) → t.row v k ≡ t.row w k
-  unstored {w} {v} p k h = t.row_same v w k k (λ a b x y e. let d : b ≡ a = omega arith in rw d (number_unstored p a (h a x y)))
+  unstored p k h = unstored_as t p k h
 
   -- a row that is to stay counts as stored
   pub stored_same : {w v : List Float} {o : ℕ} {f : ℕ → A} {i : ℕ} → StoredAs t w v o f i → o + t.wide * i + t.wide ≤ length w → f i ≡ t.row w (o + t.wide * i) → StoredAs t w v o f (i + 1)

@@ -11,11 +11,16 @@ use crate::rows::Row;
 use vectors::vec4;
 use vectors::vec4::Vec4;
 
+// Row by row, as the definition has it. By `fill` one wrong number could not be told from a row of them by an edit.
+#[tactic(auto, unfolding(crate::specs::SliceOfArray::zero_rows))]
 pub fn set_zero(work: &mut [f64], to: usize, n: usize)
     requires { to + 4 * n ≤ length work.old }
     ensures { work.new ≡ put work.old to (flat4 (zero_rows n)) }
 {
-    work[to..to + 4 * n].fill(0.0);
+    let zero = Vec4::default();
+    for i in 0..n {
+        zero.store(work, to + 4 * i);
+    }
 }
 
 // The sum of the rows' products, upward from +0.

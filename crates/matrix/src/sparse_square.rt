@@ -34,10 +34,10 @@ fn add_product(m: &[f64; 16], x: &[f64; 4], s: Vec4) -> Vec4
     s + block_product(Mat4::load(m, 0), Vec4::load(x, 0))
 }
 
-// y and the products of up to two blocks with as many rows. It is compiled in place at both calls, and
-// has no loop: with a fold over the pairs a whole product takes an eighth more instructions.
+// y and the products of up to two blocks before the diagonal with as many rows. It is compiled in place and has no
+// loop: with a fold over the pairs a whole product takes an eighth more instructions.
 #[inline(always)]
-fn add_products(blocks: &[[f64; 16]], rows: &[[f64; 4]], y: Vec4) -> Vec4
+fn add_before(blocks: &[[f64; 16]], rows: &[[f64; 4]], y: Vec4) -> Vec4
     requires no_minus_zero { NoMinusZero y }
     requires as_many { length blocks.now ≡ length rows.now }
     requires at_most_two { length rows.now ≤ 2 }
@@ -47,6 +47,22 @@ fn add_products(blocks: &[[f64; 16]], rows: &[[f64; 4]], y: Vec4) -> Vec4
     match (blocks, rows) {
         ([a], [u]) => add_product(a, u, y),
         ([a, b], [u, v]) => add_product(b, v, add_product(a, u, y)),
+        _ => y,
+    }
+}
+
+// The same of those after it. Two functions, so that an edit can make one of the two wrong.
+#[inline(always)]
+fn add_after(blocks: &[[f64; 16]], rows: &[[f64; 4]], y: Vec4) -> Vec4
+    requires no_minus_zero { NoMinusZero y }
+    requires as_many { length blocks.now ≡ length rows.now }
+    requires at_most_two { length rows.now ≤ 2 }
+    ensures value { result ≡ add_products plus_one y (cut_blocks blocks.now) (cut_rows rows.now) }
+    ensures sum_no_minus_zero { NoMinusZero result }
+{
+    match (blocks, rows) {
+        ([c], [u]) => add_product(c, u, y),
+        ([c, d], [u, v]) => add_product(d, v, add_product(c, u, y)),
         _ => y,
     }
 }
@@ -63,8 +79,8 @@ fn row_product(row: &[[f64; 16]], x: &[[f64; 4]], n: Vertices, i: usize, old: Ve
     let low = layout::count_before(i);
     let high = layout::count_after(n, i);
     let s0 = Vec4::default() + old * 0.0;
-    let s1 = add_products(&row[..low], &x[i - low..i], s0);
-    let s2 = add_products(&row[low..low + high], &x[i + 1..i + 1 + high], s1);
+    let s1 = add_before(&row[..low], &x[i - low..i], s0);
+    let s2 = add_after(&row[low..low + high], &x[i + 1..i + 1 + high], s1);
     add_product(&row[low + high], &x[i], s2)
 }
 

@@ -36,7 +36,7 @@ pub fn rows_are_finite<R: Row + Finite>(work: &[f64], at: usize, n: usize) -> bo
 pub fn is_finite(energy: f64, work: &Work, n: Vertices) -> bool
     ensures { result ≡ system_is_finite energy (system_at n.count work.now) }
 {
-    energy.is_finite()
+    Finite::is_finite(energy)
         & rows_are_finite::<Vec4>(work, area::R, n.count)
         & rows_are_finite::<Mat4>(work, 0, 5 * n.count - 6)
 }

@@ -17,6 +17,7 @@ pub loop-i-init : goal.loop-i-init
 loop-i-init c = stored_none _ _ _
 
 pub loop-i-preserved : goal.loop-i-preserved
+unfolding row_unless_fixed
 loop-i-preserved c =
     let l = c.loop-i in
     let old = unstored l.invariant (c.args.to + 4 * l.i) (λ j a b x y. omega arith) in

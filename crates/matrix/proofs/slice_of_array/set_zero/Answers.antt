@@ -1,21 +1,21 @@
--- The rows' numbers are as many zeros, which is what the library stores.
-use Rattle.std.proofs.Common.{◌∙◌, ℕ, ◌*◌, sym, ap, arith}
-use Rattle.std.specs.Prelude.{replicate}
-use Rattle.std.proofs.lemmas.List.{length-replicate, take_all}
-use Rattle.std.proofs.lemmas.Slice.{put_mid-paste}
-use Rattle.vectors.specs.Number.{plus_zero}
-use Rattle.matrix.specs.Parts.{part, put}
-use Rattle.matrix.proofs.Parts.{length_part, paste_put}
-use Rattle.matrix.proofs.RowLaws.{flat_zeros}
+-- A turn of the loop stores one row more, and after the last the rows are all of them.
+use Rattle.std.proofs.Common.{◌≡◌, ◌∙◌, ℕ, refl, ap, rules, arith}
+use Rattle.vectors.specs.declared.vec4.Vec4.{Vec4}
+use Rattle.matrix.specs.Parts.{put, table}
+use Rattle.matrix.specs.Rows.{zero_row, flat4}
+use Rattle.matrix.specs.SliceOfArray.{zero_rows}
+use Rattle.matrix.proofs.RowLaws.{stored_none, stored_more, stored_all}
 use Rattle.matrix.proofs.slice_of_array.set_zero.Goals as goal
 
+pub loop-i-init : goal.loop-i-init
+loop-i-init c = stored_none _ _ _
+
+pub loop-i-preserved : goal.loop-i-preserved
+loop-i-preserved c = stored_more c.loop-i.invariant c.store.ensures refl
+
 pub returns : goal.returns
-unfolding part
+unfolding zero_rows
 returns c =
     let a = c.args in
-    let m = 4 * a.n in
-    let z = replicate m plus_zero in
-    let l = length-replicate m plus_zero in
-    put_mid-paste a.to _ a.work.now _ z m (c.fill.ensures.after (λ y e. e) ∙ ap (λ (k : ℕ). replicate k plus_zero) (length_part a.work.now a.to _ (omega arith) ∙ omega arith)) (omega arith) (sym l)
-    ∙ paste_put a.work.now a.to m z z (take_all m z (omega arith)) l c.requires
-    ∙ ap (put a.work.now a.to) (sym (flat_zeros a.n))
+    let d : c.default-zero.result ≡ zero_row = search rules in
+    stored_all c.loop-i.invariant (omega arith) ∙ ap (λ (z : Vec4). put a.work.now a.to (flat4 (table a.n (λ (_ : ℕ). z)))) d

@@ -15,5 +15,5 @@ returns c =
     let n = c.args.n in
     let w = c.args.work.now in
     let e = ap (λ (k : ℕ). every mat4_is_finite (blocks16 w 0 k)) (sym (all_blocks n.count n.in_range.0)) ∙ every_row mat4_is_finite w n.count n.count in
-    rw (c.is_finite.ensures.value, c.rows_are_finite.ensures, c.rows_are_finite-2.ensures)
+    rw (c.is_finite.ensures, c.rows_are_finite.ensures, c.rows_are_finite-2.ensures)
     (ap (λ (b : Bool). is_finite c.args.energy && every vec4_is_finite (rows4 w place_r n.count) && b) e)

@@ -1,7 +1,7 @@
 -- None, one or two blocks, as the lengths tell.
 use Rattle.std.proofs.Common.{rules}
 use Rattle.matrix.proofs.Products.{no_products, one_product, two_products}
-use Rattle.matrix.proofs.sparse_square.add_products.Goals as goal
+use Rattle.matrix.proofs.sparse_square.add_before.Goals as goal
 
 pub returns-in_default-clause-value : goal.returns-in_default-clause-value
 returns-in_default-clause-value c = no_products _ _ _ _ c.in_default.len_below
