@@ -32,7 +32,9 @@ pub(crate) fn vacant(seats: &Record, long: bool, seat: usize) -> Result<(), Refu
     ensures { told result ≡ first (seat_rows long (seat ∷ []) seats.now ++ (vacant (get_or seats.now.counts seat 0) ∷ [])) }
 {
     known(seats, long, seat)?;
-    if seats.counts[seat] != 0 {
+    // Six counts are copied: `seats.counts[seat]` copies the whole record. So below.
+    let counts = seats.counts;
+    if counts[seat] != 0 {
         return Err(Refusal::Occupancy);
     }
     Ok(())
@@ -44,5 +46,6 @@ pub(crate) fn taken(seats: &Record, long: bool, seat: usize) -> Result<Vertices,
     ensures count { IfOk result (λ n. n.count ≡ get_or seats.now.counts seat 0) }
 {
     known(seats, long, seat)?;
-    Vertices::new(seats.counts[seat]).ok_or(Refusal::Occupancy)
+    let counts = seats.counts;
+    Vertices::new(counts[seat]).ok_or(Refusal::Occupancy)
 }

@@ -126,7 +126,7 @@ pub fn look<'a>(
     ensures after { (pins : List ℕ) → bench_of seats rest.now drape.now pins ≡ after_of (call seat (look kind)) (bench_of seats rest.now drape.now pins) }
 {
     let Ok(p) = place_of(seats, rest, drape, seat, kind) else {
-        return &[];
+        return &rest[..0];
     };
     match p.area {
         Area::Rest => &rest[p.at..p.at + p.count],

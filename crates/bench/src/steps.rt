@@ -91,6 +91,7 @@ fn stepped<K: Kind>(
     ensures leaves_work { LeavesWork (number_of (call_with work.old seat (step pick (K.time kind))) (bench_of seats.now rest.now drape.old pins.now)) work.old work.new }
 {
     let p = asked::asked(kind, seats, rest, drape, pins, work, seat, pick)?;
+    let settings = seats.settings;
     on_seat(
         kind,
         rest,
@@ -99,7 +100,7 @@ fn stepped<K: Kind>(
         work.as_mut_array().unwrap(),
         seat,
         p,
-        seats.settings[seat],
+        settings[seat],
     )
 }
 

@@ -7,6 +7,7 @@ use crate::{areas, given, parts, positions, prediction, rod3_darboux, velocities
 use matrix::area::Work;
 use matrix::vertices::Vertices;
 use matrix::{area, loads};
+use vectors::finite::Finite;
 
 #[derive(Clone, Copy)]
 pub(crate) struct Dynamic {
@@ -18,7 +19,7 @@ impl Kind for Dynamic {
 
     #[tactic(auto, unfolding(crate::specs::Step::time_fits))]
     fn fits(self) -> bool {
-        self.dt.is_finite() & (0.0 < self.dt)
+        Finite::is_finite(self.dt) & (0.0 < self.dt)
     }
 
     // The predicted working copy, and the drape's frames, orthonormalised along it.

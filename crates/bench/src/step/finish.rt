@@ -20,6 +20,7 @@ use matrix::area::Work;
 use matrix::conjugate_gradient::Solve;
 use matrix::vertices::Vertices;
 use matrix::{area, system};
+use vectors::finite::Finite;
 use vectors::vec4::Vec4;
 
 // Whether 9 does not decline the solution and its ratio.
@@ -27,7 +28,7 @@ use vectors::vec4::Vec4;
 fn solution_is_finite(work: &Work, n: Vertices, ratio: f64) -> bool
     ensures { result ≡ (is_finite ratio && every vec4_is_finite (rows4 work.now place_u n.count)) }
 {
-    ratio.is_finite() & system::rows_are_finite::<Vec4>(work, area::U, n.count)
+    Finite::is_finite(ratio) & system::rows_are_finite::<Vec4>(work, area::U, n.count)
 }
 
 // A step of any kind ends.

@@ -23,13 +23,13 @@ returns-in_err-known-clause-number c =
     let a = c.args in
     refused_on _ _ _ _ c.from_residual.ensures.1 (third_test a.long a.seat a.seats.now (not (eqb (get_or a.seats.now.counts a.seat 0) 0)) _ c.in_err-known.ensures)
 
-pub offset_bounds-seats-seat : goal.offset_bounds-seats-seat
+pub offset_bounds-counts-seat : goal.offset_bounds-counts-seat
 unfolding told seat_rows
-offset_bounds-seats-seat c = omega (arith, seat_is _ _ _ [] (sym c.in_ok-known.ensures))
+offset_bounds-counts-seat c = omega (arith, seat_is _ _ _ [] (sym c.in_ok-known.ensures))
 
-pub bounds-seats-seat : goal.bounds-seats-seat
+pub bounds-counts-seat : goal.bounds-counts-seat
 unfolding told seat_rows
-bounds-seats-seat c = seat_is _ _ _ [] (sym c.in_ok-known.ensures)
+bounds-counts-seat c = seat_is _ _ _ [] (sym c.in_ok-known.ensures)
 
 pub returns-clause-number : goal.returns-clause-number
 unfolding told seat_rows

@@ -12,22 +12,22 @@ returns-in_err-known c =
     let a = c.args in
     refused_on _ _ _ _ c.from_residual.ensures.1 (third_test a.long a.seat a.seats.now (eqb (get_or a.seats.now.counts a.seat 0) 0) _ c.in_err-known.ensures)
 
-pub offset_bounds-seats-seat : goal.offset_bounds-seats-seat
+pub offset_bounds-counts-seat : goal.offset_bounds-counts-seat
 unfolding told seat_rows
-offset_bounds-seats-seat c = omega (arith, seat_is _ _ _ [] (sym c.in_ok-known.ensures))
+offset_bounds-counts-seat c = omega (arith, seat_is _ _ _ [] (sym c.in_ok-known.ensures))
 
-pub bounds-seats-seat : goal.bounds-seats-seat
+pub bounds-counts-seat : goal.bounds-counts-seat
 unfolding told seat_rows
-bounds-seats-seat c = seat_is _ _ _ [] (sym c.in_ok-known.ensures)
+bounds-counts-seat c = seat_is _ _ _ [] (sym c.in_ok-known.ensures)
 
-pub returns-then-seats-seat-ne0 : goal.returns-then-seats-seat-ne0
+pub returns-then-counts-seat-ne0 : goal.returns-then-counts-seat-ne0
 unfolding told refusal_number
-returns-then-seats-seat-ne0 c =
+returns-then-counts-seat-ne0 c =
     let a = c.args in
-    rw (third_test a.long a.seat a.seats.now (eqb (get_or a.seats.now.counts a.seat 0) 0) 0 c.in_ok-known.ensures, ne_eqb _ _ c.if-seats-seat-ne0.true)
+    rw (third_test a.long a.seat a.seats.now (eqb (get_or a.seats.now.counts a.seat 0) 0) 0 c.in_ok-known.ensures, ne_eqb _ _ c.if-counts-seat-ne0.true)
 
 pub returns : goal.returns
 unfolding told
 returns c =
     let a = c.args in
-    rw (third_test a.long a.seat a.seats.now (eqb (get_or a.seats.now.counts a.seat 0) 0) 0 c.in_ok-known.ensures, eq-eqb _ _ c.if-seats-seat-ne0.false)
+    rw (third_test a.long a.seat a.seats.now (eqb (get_or a.seats.now.counts a.seat 0) 0) 0 c.in_ok-known.ensures, eq-eqb _ _ c.if-counts-seat-ne0.false)

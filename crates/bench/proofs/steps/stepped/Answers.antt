@@ -26,11 +26,11 @@ returns-in_err-p g c =
 pub unwrap-requires : goal.unwrap-requires
 unwrap-requires g c = c.as_mut_array.ensures.variant.1 (accepted g (goal.at.unwrap-requires g c).In_ok-p).work
 
-pub offset_bounds-seats-seat : goal.offset_bounds-seats-seat
-offset_bounds-seats-seat g c = omega (arith, (accepted g (goal.at.offset_bounds-seats-seat g c).In_ok-p).seat)
+pub offset_bounds-settings-seat : goal.offset_bounds-settings-seat
+offset_bounds-settings-seat g c = omega (arith, (accepted g (goal.at.offset_bounds-settings-seat g c).In_ok-p).seat)
 
-pub bounds-seats-seat : goal.bounds-seats-seat
-bounds-seats-seat g c = (accepted g (goal.at.bounds-seats-seat g c).In_ok-p).seat
+pub bounds-settings-seat : goal.bounds-settings-seat
+bounds-settings-seat g c = (accepted g (goal.at.bounds-settings-seat g c).In_ok-p).seat
 
 pub on_seat-requires : goal.on_seat-requires
 on_seat-requires g c =
