@@ -2,8 +2,8 @@
 use crate::area::{Area, DRAPE, PINS, REST, WORK};
 use crate::difference::Difference;
 use crate::expected::Expected;
-use crate::settings;
 use crate::stored::{Stored, first_other};
+use crate::{garbage, settings};
 use bench::areas::SEATS;
 use bench::seats::Record;
 
@@ -17,16 +17,28 @@ pub struct Areas {
     pub work: [f64; WORK],
 }
 
-impl Areas {
-    // What a call begins with: record and areas as they are expected, and a work area of which no number
-    // may matter.
-    pub fn ready(expected: &Expected, stale: &[u64; WORK]) -> Areas {
+impl Default for Areas {
+    fn default() -> Areas {
         Areas {
-            record: expected.record(),
-            rest: expected.rest.map(f64::of),
-            drape: expected.drape.map(f64::of),
-            pins: expected.pins.map(u8::of),
-            work: stale.map(f64::of),
+            record: Record::default(),
+            rest: [0.0; REST],
+            drape: [0.0; DRAPE],
+            pins: [0; PINS],
+            work: [0.0; WORK],
+        }
+    }
+}
+
+impl Areas {
+    // What the call of the line that so many came before begins with: record and areas as they are expected, and a
+    // work area of which no number may matter. Filled where they stand, so that no array is copied on the stack.
+    pub fn make_ready(&mut self, expected: &Expected, before: usize) {
+        self.record = expected.record();
+        fill(&mut self.rest, &expected.rest);
+        fill(&mut self.drape, &expected.drape);
+        fill(&mut self.pins, &expected.pins);
+        for (place, number) in self.work.iter_mut().enumerate() {
+            *number = f64::of(garbage::at(place, before));
         }
     }
 
@@ -35,13 +47,13 @@ impl Areas {
         &self,
         expected: &Expected,
         free: usize,
-        stale: &[u64; WORK],
+        before: usize,
     ) -> Option<Difference> {
         self.in_record(expected)
             .or_else(|| in_area(Area::Rest, &self.rest, &expected.rest))
             .or_else(|| in_area(Area::Drape, &self.drape, &expected.drape))
             .or_else(|| in_area(Area::Pins, &self.pins, &expected.pins))
-            .or_else(|| self.in_work(free, stale))
+            .or_else(|| self.in_work(free, before))
     }
 
     // Seat by seat, the count before the settings. By the seat's number, which is told of the place.
@@ -58,14 +70,19 @@ impl Areas {
         })
     }
 
-    fn in_work(&self, free: usize, stale: &[u64; WORK]) -> Option<Difference> {
+    fn in_work(&self, free: usize, before: usize) -> Option<Difference> {
         self.work
             .iter()
-            .zip(stale)
             .enumerate()
             .skip(free)
-            .find(|(_, (number, word))| !number.is(**word))
+            .find(|(place, number)| !number.is(garbage::at(*place, before)))
             .map(|(place, _)| Difference::Work(place))
+    }
+}
+
+fn fill<T: Stored>(places: &mut [T], words: &[u64]) {
+    for (place, word) in places.iter_mut().zip(words) {
+        *place = T::of(*word);
     }
 }
 

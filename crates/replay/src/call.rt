@@ -1,6 +1,6 @@
 // A call that a line stores: what is lent, what is asked, and what the reference answered.
 use crate::event::Kind;
-use crate::fault::{Fault, Malformed};
+use crate::fault::Malformed;
 use crate::lent::Lent;
 use crate::look::StoredLook;
 use crate::settings;
@@ -9,7 +9,6 @@ use crate::stored::Stored;
 use crate::words::Words;
 use bench::answers::Pick;
 use bench::seats::Settings;
-use std::alloc::Global;
 use vectors::vec3::Vec3;
 
 #[derive(Drop)]
@@ -23,7 +22,7 @@ pub struct Call<'a> {
 // not is an answer that differs, and not malformed.
 #[derive(Drop)]
 pub enum Asked<'a> {
-    Load(Load),
+    Load(Load<'a>),
     Unload {
         refusal: u64,
     },
@@ -51,20 +50,20 @@ pub enum Asked<'a> {
 }
 
 #[derive(Drop)]
-pub struct Load {
+pub struct Load<'a> {
     pub n: usize,
     pub settings: Settings,
-    pub positions: Vec<f64>,
-    pub frames: Vec<f64>,
+    pub positions: &'a [u64],
+    pub frames: &'a [u64],
     pub refusal: u64,
 }
 
 impl<'a> Call<'a> {
-    pub fn read(alloc: Global, kind: Kind, words: &mut Words<'a>) -> Result<Call<'a>, Fault> {
+    pub fn read(kind: Kind, words: &mut Words<'a>) -> Result<Call<'a>, Malformed> {
         Ok(Call {
             lent: Lent::read(words)?,
             seat: words.value()?,
-            asked: Asked::read(alloc, kind, words)?,
+            asked: Asked::read(kind, words)?,
         })
     }
 
@@ -80,9 +79,9 @@ impl<'a> Call<'a> {
 }
 
 impl<'a> Asked<'a> {
-    fn read(alloc: Global, kind: Kind, words: &mut Words<'a>) -> Result<Asked<'a>, Fault> {
+    fn read(kind: Kind, words: &mut Words<'a>) -> Result<Asked<'a>, Malformed> {
         Ok(match kind {
-            Kind::Load => Asked::Load(Load::read(alloc, words)?),
+            Kind::Load => Asked::Load(Load::read(words)?),
             Kind::Unload => Asked::Unload {
                 refusal: words.word()?,
             },
@@ -114,20 +113,16 @@ impl<'a> Asked<'a> {
     }
 }
 
-impl Load {
-    fn read(alloc: Global, words: &mut Words<'_>) -> Result<Load, Fault> {
+impl<'a> Load<'a> {
+    fn read(words: &mut Words<'a>) -> Result<Load<'a>, Malformed> {
         Ok(Load {
             n: words.value()?,
             settings: settings::of(words.take()?),
-            positions: numbers(alloc, words.list()?)?,
-            frames: numbers(alloc, words.list()?)?,
+            positions: words.list()?,
+            frames: words.list()?,
             refusal: words.word()?,
         })
     }
-}
-
-fn numbers(alloc: Global, words: &[u64]) -> Result<Vec<f64>, Fault> {
-    Ok(words.iter().map(|word| f64::of(*word)).collect(alloc)?)
 }
 
 // Vertex and goal, if the line has them.

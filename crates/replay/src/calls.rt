@@ -1,5 +1,6 @@
 // The calls on the bench, each with the areas as they are lent.
 use crate::areas::Areas;
+use crate::at_most::AtMost;
 use crate::call::{Asked, Call, Load};
 use crate::lent::Lent;
 use crate::look::StoredLook;
@@ -7,10 +8,33 @@ use crate::stored::{Stored, first_other};
 use bench::answers::{Pick, StepAnswer};
 use bench::look::Area;
 use bench::refusal::Refusal;
+use bench::seats::Record;
 use bench::{load, look, pin, refusal, steps, unload};
+use std::array;
 
 // Numbers of the longest list that a load is handed.
 const LIST: usize = 128;
+
+// The numbers of such a list.
+#[derive(Drop)]
+struct List {
+    numbers: [f64; LIST],
+    length: AtMost<LIST>,
+}
+
+impl List {
+    // None of a longer one.
+    fn of(words: &[u64]) -> Option<List> {
+        Some(List {
+            numbers: array::from_fn(|i| words.get(i).map_or(0.0, |word| f64::of(*word))),
+            length: AtMost::try_from(words.len()).ok()?,
+        })
+    }
+
+    fn numbers(&self) -> &[f64] {
+        self.length.of(&self.numbers)
+    }
+}
 
 impl Areas {
     // Makes the call. Whether its answer is the stored one. One arm for each kind: each hands over other things, and
@@ -19,7 +43,7 @@ impl Areas {
         let lent = call.lent;
         let seat = call.seat;
         match &call.asked {
-            Asked::Load(load) => told(self.load(lent, seat, load), load.refusal) & is_short(load),
+            Asked::Load(load) => self.has_loaded(lent, seat, load),
             Asked::Unload { refusal } => told(self.unload(lent, seat), *refusal),
             Asked::Pin {
                 vertex,
@@ -33,28 +57,37 @@ impl Areas {
         }
     }
 
-    fn load(&mut self, lent: Lent, seat: usize, load: &Load) -> Result<(), Refusal> {
-        load::load(
-            &mut self.record,
+    // A load that is stored with a longer list than one is handed has another answer, whatever it is.
+    fn has_loaded(&mut self, lent: Lent, seat: usize, load: &Load<'_>) -> bool {
+        let (Some(positions), Some(frames)) = (List::of(load.positions), List::of(load.frames))
+        else {
+            return false;
+        };
+        let outcome = load::load_value(
+            self.record,
             lent.rest.of_mut(&mut self.rest),
             lent.drape.of_mut(&mut self.drape),
             lent.pins.of_mut(&mut self.pins),
             seat,
             load.n,
             load.settings,
-            &load.positions,
-            &load.frames,
-        )
+            positions.numbers(),
+            frames.numbers(),
+        );
+        self.record = outcome.unwrap_or(self.record);
+        told(outcome, load.refusal)
     }
 
-    fn unload(&mut self, lent: Lent, seat: usize) -> Result<(), Refusal> {
-        unload::unload(
-            &mut self.record,
+    fn unload(&mut self, lent: Lent, seat: usize) -> Result<Record, Refusal> {
+        let outcome = unload::unload_value(
+            self.record,
             lent.rest.of_mut(&mut self.rest),
             lent.drape.of_mut(&mut self.drape),
             lent.pins.of_mut(&mut self.pins),
             seat,
-        )
+        );
+        self.record = outcome.unwrap_or(self.record);
+        outcome
     }
 
     fn pin(
@@ -127,12 +160,8 @@ impl Areas {
 }
 
 // Whether the stored number is the one that the outcome tells.
-fn told(outcome: Result<(), Refusal>, stored: u64) -> bool {
+fn told<T: Copy>(outcome: Result<T, Refusal>, stored: u64) -> bool {
     refusal::told(outcome).is(stored)
-}
-
-fn is_short(load: &Load) -> bool {
-    (load.positions.len() <= LIST) & (load.frames.len() <= LIST)
 }
 
 fn are_stored(numbers: &[f64], words: &[u64]) -> bool {

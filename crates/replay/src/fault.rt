@@ -1,7 +1,5 @@
 // Why no more of a list is read.
-use std::alloc::AllocError;
 use std::io;
-use std::num::ParseIntError;
 
 // A line that is none of the format's, or a list that ended early.
 #[derive(Clone, Copy)]
@@ -19,20 +17,8 @@ impl From<Malformed> for Fault {
     }
 }
 
-impl From<ParseIntError> for Fault {
-    fn from(_: ParseIntError) -> Fault {
-        Fault::Malformed
-    }
-}
-
 impl From<io::Error> for Fault {
     fn from(error: io::Error) -> Fault {
         Fault::Io(error)
-    }
-}
-
-impl From<AllocError> for Fault {
-    fn from(error: AllocError) -> Fault {
-        Fault::Io(io::Error::from(error))
     }
 }

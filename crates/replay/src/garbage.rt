@@ -1,7 +1,4 @@
 // What the work area holds before a call: no number of it may matter.
-use crate::area::WORK;
-use std::array;
-
 // A NaN, both infinities, the largest number, -0, the smallest above 0 and a usual one.
 const STALE: [u64; 7] = [
     0x7ff8_0000_0000_0000,
@@ -13,7 +10,8 @@ const STALE: [u64; 7] = [
     0xbfe6_6666_6666_6666,
 ];
 
-// These in turn, before the call of the line that so many came before; each line begins with the next of them.
-pub fn before(lines: usize) -> [u64; WORK] {
-    array::from_fn(|i| STALE[i.wrapping_add(lines) % STALE.len()])
+// Of a place, before the call of the line that so many came before: these in turn, and each line begins with the
+// next of them.
+pub fn at(place: usize, lines: usize) -> u64 {
+    STALE[place.wrapping_add(lines) % STALE.len()]
 }

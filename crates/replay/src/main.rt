@@ -4,7 +4,6 @@
 
 use std::fs::File;
 use std::io;
-use std::io::BufReader;
 
 mod area;
 mod areas;
@@ -33,8 +32,7 @@ fn main(rt: HostRuntime) -> io::Result<()> {
     }
 }
 
-fn replay(rt: &(impl Print + AllocGlobal), file: File) -> io::Result<()> {
-    let reader = BufReader::new(rt.alloc(), file)?;
-    let tally = run::run(rt.alloc(), reader)?;
+fn replay(rt: &impl Print, file: File) -> io::Result<()> {
+    let tally = run::run(file)?;
     print!(rt; "{tally}")
 }

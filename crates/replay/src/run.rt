@@ -5,13 +5,11 @@ use crate::difference::Difference;
 use crate::event::{Event, Kind};
 use crate::expected::Expected;
 use crate::fault::Fault;
-use crate::garbage;
-use crate::lines::Lines;
+use crate::lines::{Lines, WORDS};
 use crate::tally::Tally;
 use crate::words::Words;
-use std::alloc::Global;
+use std::fs::File;
 use std::io;
-use std::io::BufRead;
 
 // The lines that are read at most.
 const MOST: usize = 1_000_000;
@@ -25,24 +23,25 @@ enum Turn {
     Call(Option<Difference>),
 }
 
+// What is expected, and what a call is made on.
 #[derive(Drop)]
-struct Replay<R> {
-    lines: Lines<R>,
+struct Bench {
     expected: Expected,
-    alloc: Global,
+    areas: Areas,
 }
 
 // The lines that are read, from the first on.
-pub fn run<R: BufRead + Drop>(alloc: Global, reader: R) -> io::Result<Tally> {
-    let mut replay = Replay {
-        lines: Lines::new(reader),
+pub fn run(file: File) -> io::Result<Tally> {
+    let mut lines = Lines::new(file);
+    let mut words = [0; WORDS];
+    let mut bench = Bench {
         expected: Expected::default(),
-        alloc,
+        areas: Areas::default(),
     };
     let mut tally = Tally::default();
     for before in 0..MOST {
         let line = before + 1;
-        match replay.take_turn(before) {
+        match bench.take_turn(&mut lines, &mut words, before) {
             Ok(Turn::End) => return Ok(tally),
             Ok(Turn::Change) => {}
             Ok(Turn::Call(difference)) => tally.count(line, difference),
@@ -53,13 +52,18 @@ pub fn run<R: BufRead + Drop>(alloc: Global, reader: R) -> io::Result<Tally> {
     Ok(tally.malformed_at(MOST))
 }
 
-impl<R: BufRead> Replay<R> {
-    // The next line; so many came before it.
-    fn take_turn(&mut self, before: usize) -> Result<Turn, Fault> {
-        let line = self.lines.next_words(self.alloc)?;
-        let mut words = Words::new(&line);
+impl Bench {
+    // The next line, whose words go into an array of the caller's; so many lines came before it.
+    fn take_turn(
+        &mut self,
+        lines: &mut Lines,
+        words: &mut [u64; WORDS],
+        before: usize,
+    ) -> Result<Turn, Fault> {
+        let line = lines.next_line(words)?;
+        let mut words = Words::new(line.count.of(words));
         match Event::try_from(words.word()?)? {
-            Event::End => self.end(&mut words, before),
+            Event::End => end(&mut words, before, line.is_last),
             Event::Call(kind) => self.call(kind, &mut words, before),
             Event::Change => {
                 self.expected.make_runs(&mut words)?;
@@ -68,27 +72,27 @@ impl<R: BufRead> Replay<R> {
         }
     }
 
-    // The last line says how many came before it.
-    fn end(&mut self, words: &mut Words<'_>, before: usize) -> Result<Turn, Fault> {
-        let stored: usize = words.value()?;
-        words.end()?;
-        if (stored == before) & self.lines.is_at_end()? {
-            Ok(Turn::End)
-        } else {
-            Err(Fault::Malformed)
-        }
-    }
-
     fn call(&mut self, kind: Kind, words: &mut Words<'_>, before: usize) -> Result<Turn, Fault> {
-        let call = Call::read(self.alloc, kind, words)?;
-        let stale = garbage::before(before);
-        let mut areas = Areas::ready(&self.expected, &stale);
+        let call = Call::read(kind, words)?;
+        self.areas.make_ready(&self.expected, before);
         self.expected.make_runs(words)?;
-        let difference = if areas.make(&call) {
-            areas.difference(&self.expected, call.free_work(), &stale)
+        let difference = if self.areas.make(&call) {
+            self.areas
+                .difference(&self.expected, call.free_work(), before)
         } else {
             Some(Difference::Answer)
         };
         Ok(Turn::Call(difference))
+    }
+}
+
+// The last line says how many came before it.
+fn end(words: &mut Words<'_>, before: usize, is_last: bool) -> Result<Turn, Fault> {
+    let stored: usize = words.value()?;
+    words.end()?;
+    if (stored == before) & is_last {
+        Ok(Turn::End)
+    } else {
+        Err(Fault::Malformed)
     }
 }
