@@ -68,12 +68,22 @@ fn show_seats(rt: &impl Print) -> io::Result<()> {
     show_lengths(rt)
 }
 
-// Steps with too little of an area. Length by length: a literal with `..` of what has ghost fields is not
-// supported.
 fn show_lengths(rt: &impl Print) -> io::Result<()> {
+    show_short_work(rt)?;
+    show_short_rest(rt)
+}
+
+// Steps with too little of an area. Length by length: a literal with `..` of what has ghost fields is not
+// supported. Not compiled in place, as each bench would lie on the stack below every other step.
+#[inline(never)]
+fn show_short_work(rt: &impl Print) -> io::Result<()> {
     let mut bench = run::laid(RATIO, 0);
     bench.lent.work = WORK - 1;
-    run::show(rt, "step: work one short", &mut bench, Step::default())?;
+    run::show(rt, "step: work one short", &mut bench, Step::default())
+}
+
+#[inline(never)]
+fn show_short_rest(rt: &impl Print) -> io::Result<()> {
     let mut bench = run::laid(RATIO, 0);
     bench.lent.rest = REST - 1;
     run::show(rt, "step: rest one short", &mut bench, Step::default())
